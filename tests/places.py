@@ -98,9 +98,9 @@ def all_forms(reader, path):
 def keys_of_code():
     """How often the code's tables have each key, in a row of its own or in one that several of them share."""
     text = KEYS.read_text()
-    shared = dict(re.findall(r'const (\w+): Field = Field \{\s+key: "([\w-]+)"', text))
+    shared = dict(re.findall(r'const (\w+): Field = \w+!\("([\w-]+)"', text))
     tables = "".join(re.findall(r"const \w+: &\[Field\] = &\[(.*?)\];", text, re.DOTALL))
-    rows = re.findall(r'\bkey: "([\w-]+)"', tables)
+    rows = re.findall(r'\b(?:field|documented)!\("([\w-]+)"', tables)
     return collections.Counter(rows + [shared[name] for name in re.findall(r"\w+", tables) if name in shared])
 
 

@@ -1,5 +1,5 @@
 -- What is read of borrowed sources, as what is read of what is given.
-use Rattle.std.proofs.Common.{List, [], ◌∷◌, map, Option, Some, None, sym, ◌∙◌}
+use Rattle.std.proofs.Common.{List, [], ◌∷◌, map, Option, Some, None, sym, ◌∙◌, rules}
 use Rattle.nextest_config.specs.Merge.{IsJoinOfPieces, IsRefusalOfPieces}
 use Rattle.nextest_config.specs.NextestVersion.{Ask, under, AreDocumentsOf, AreGivenAs, Configuration, configuration_of, document_members, document_place, IsConfigurationOf, IsDocumentOf, IsErrorOf, IsErrorOfBorrowed, IsErrorOfDocument, IsGivenAs, IsRefusedReading, join_configurations, neutral_seen, Refusal, refusal_of, seen_configuration, StandsForBorrowed, StandsForDocument, StandsForOne}
 use Rattle.nextest_config.specs.NextestVersion.Source.{Given}
@@ -22,24 +22,17 @@ document_asks : (edition : Edition) (given : Given) (document : SourceDocument) 
 document_asks edition given document ask is asks = rw (is.contents, is.place) (document_members document, is.read, asks)
 
 document_stands : (edition : Edition) (given : Given) (document : SourceDocument) (c : Configuration) → IsDocumentOf given document → StandsForDocument edition document c → StandsForOne (under edition given) c
-document_stands edition given document c is (ask, asks, stands) = (
-  record { place = document_place document; ask = ask } ∷ [],
-  (record { place = sym is.place; read = document_asks edition given document ask is asks }, tt),
-  stands,
-)
+document_stands edition given document c is h5 = search rules
 
 document_wrong : (edition : Edition) (given : Given) (document : SourceDocument) (told : Option Refusal) → IsDocumentOf given document → IsErrorOfDocument edition document told → IsErrorOf (under edition given) told
-document_wrong edition given document None is wrong = wrong
-document_wrong edition given document (Some refusal) is wrong = record { named = wrong.0 ∙ sym is.place; wrong = rw (is.contents, is.place, is.read) wrong.1 }
+document_wrong edition given document told is wrong = search rules
 
 module _ (edition : Edition) where
   given_stands : (given : Given) (source : BorrowedSource) (it : SourcesConfig) → IsGivenAs given source → StandsForBorrowed edition source (configuration_of it.config) → StandsForOne (under edition given) (configuration_of it.config)
-  given_stands given (sources.File file) it is stands = rw is stands
-  given_stands given (sources.Document document) it is stands = document_stands edition given document (configuration_of it.config) is stands
+  given_stands given source it is stands = search rules
 
   given_wrong : (given : Given) (source : BorrowedSource) (told : Option Refusal) → IsGivenAs given source → IsErrorOfBorrowed edition source told → IsErrorOf (under edition given) told
-  given_wrong given (sources.File file) told is wrong = rw is wrong
-  given_wrong given (sources.Document document) told is wrong = document_wrong edition given document told is wrong
+  given_wrong given source told is wrong = search rules
 
   -- ---- all of them
 

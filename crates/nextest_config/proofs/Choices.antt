@@ -1,5 +1,5 @@
 -- A tree of choices of which one half is chosen anew.
-use Rattle.std.proofs.Common.{◌≡◌, ℕ, zero, suc, append_assoc, ◌+◌, ◌-◌, ◌/◌, ◌<◌, ◌≤◌, List, [], ◌∷◌, ◌++◌, length, get_or, set, take, drop, replicate, inl, inr, refl, sym, ap, ap₂, subst, ◌∙◌, arith}
+use Rattle.std.proofs.Common.{◌≡◌, ℕ, zero, suc, append_assoc, ◌+◌, ◌-◌, ◌/◌, ◌<◌, ◌≤◌, List, [], ◌∷◌, ◌++◌, length, get_or, set, take, drop, replicate, inl, inr, refl, sym, ap, ap₂, subst, ◌∙◌, arith, rules}
 use Rattle.std.proofs.lemmas.List.{drop-drop, drop_at, drop-replicate, get_or-replicate, get_or_at, get_or_past, length-append, length-replicate, set-append_left, set-append_right, take_at, take-replicate}
 use Rattle.std.proofs.lemmas.Bool.{cases_lt}
 use Rattle.nextest_config.specs.Choice.Choices.{HoldsChoices, undivided, halved}
@@ -9,8 +9,7 @@ use Rattle.nextest_config.proofs.Halves.{total_joined}
 module _ {X : Type 0} (choice : X → X → X) (none : X) where
   pub first_held : {leaves nodes first us : List X} → 2 ≤ length leaves → HoldsChoices choice none leaves nodes
       → first ≡ take (length leaves / 2) leaves → us ≡ take (length leaves / 2 - 1) nodes → HoldsChoices choice none first us
-  first_held many (undivided few) front nodes_front = absurd (omega arith)
-  first_held many (halved _ node first second) front nodes_front = rw (front, nodes_front) first
+  first_held many h1 front nodes_front = search rules
 
   pub second_held : {leaves nodes second rest vs : List X} → 2 ≤ length leaves → HoldsChoices choice none leaves nodes
       → second ≡ drop (length leaves / 2) leaves → rest ≡ drop (length leaves / 2 - 1) nodes → vs ≡ drop 1 rest → HoldsChoices choice none second vs

@@ -1,5 +1,5 @@
 -- When a current version is enough, by its numbers.
-use Rattle.std.proofs.Common.{◌≡◌, ℕ, ◌<◌, ◌↔◌, ◌⊎◌, Bool, true, false, not, List, [], ◌∷◌, length, refl, sym, inl, inr, ⊎_elim, arith, nat_cmp}
+use Rattle.std.proofs.Common.{◌≡◌, ℕ, ◌<◌, ◌↔◌, ◌⊎◌, Bool, true, false, not, List, [], ◌∷◌, length, refl, sym, inl, inr, ⊎_elim, arith, nat_cmp, rules}
 use Rattle.std.proofs.lemmas.Bool.{cases_order, false≢true, ne_eqb}
 use Rattle.std.specs.Cmp.{nat_cmp_is}
 use Rattle.std.specs.Ordering.{is_lt, ordering_then}
@@ -15,12 +15,7 @@ IsNotLess o = ¬ (is_lt o ≡ true)
 
 -- a number, and then the rest
 then_rest : (x y : ℕ) (rest : Ordering) (P : Type 0) → IsNotLess rest ↔ P → IsNotLess (ordering_then (nat_cmp x y) rest) ↔ ((y < x) ⊎ ((x ≡ y) × P))
-then_rest x y rest P h = ⊎_elim
-    (λ same. rw (sym (nat_cmp_is x y Equal same)) (λ e. inr (same, h.0 e), ⊎_elim (λ above. absurd (omega (arith, same))) (λ p. h.1 p.1)))
-    (⊎_elim
-    (λ less. rw (sym (nat_cmp_is x y Less less)) (λ e. absurd (e refl), ⊎_elim (λ above. absurd (omega (arith, less))) (λ same. absurd (omega (arith, less, same.0)))))
-    (λ above. rw (sym (nat_cmp_is x y Greater above)) (λ e. inl above, λ s e. false≢true e)))
-    (cases_order x y)
+then_rest x y rest P h = search rules
 
 no_pre_release : (pre : List ℕ) → IsNotLess (pre_cmp pre []) ↔ (pre ≡ [])
 no_pre_release [] = (λ e. refl, λ e f. false≢true f)
@@ -31,8 +26,7 @@ not_below_by_numbers current asked =
     then_rest current.0 asked.0 _ _ (then_rest current.1 asked.1 _ _ (then_rest current.2 asked.2 _ _ (no_pre_release current.3)))
 
 enough_if_not_below : (below : Bool) (P : Type 0) → ¬ (below ≡ true) ↔ P → (not below ≡ true) ↔ P
-enough_if_not_below true P h = (λ e. absurd (false≢true e), λ p. absurd (h.1 p refl))
-enough_if_not_below false P h = (λ e. h.0 false≢true, λ p. refl)
+enough_if_not_below below P h = search rules
 
 pub enough_by_numbers : (current : Parts) (asked : Numbers) → IsEnough current (plain asked) ↔ IsEnoughByNumbers current asked
 enough_by_numbers current asked = enough_if_not_below _ _ (not_below_by_numbers current asked)

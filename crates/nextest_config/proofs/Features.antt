@@ -1,5 +1,5 @@
 -- The features that environment variables enable.
-use Rattle.std.proofs.Common.{◌≡◌, ◌↔◌, ◌++◌, ℕ, Bool, false, List, [], ◌∷◌, Contains, Some, None, String, BTreeMap, Global, IsTrue, codes, string_bytes, option_map, refl, sym, ap, subst, ◌∙◌, nat_eq, append_assoc, arith}
+use Rattle.std.proofs.Common.{◌≡◌, ◌↔◌, ◌++◌, ℕ, Bool, false, List, [], ◌∷◌, Contains, Some, None, String, BTreeMap, Global, IsTrue, codes, string_bytes, option_map, refl, sym, ap, subst, ◌∙◌, nat_eq, append_assoc, arith, rules}
 use Rattle.std.proofs.lemmas.List.{append-nil}
 use Rattle.std.proofs.lemmas.Option.{none-some, same_Some}
 use Rattle.std.specs.BTreeMap.{get_by_text}
@@ -15,11 +15,7 @@ module _ (variables : BTreeMap (String Global) (String Global)) (feature : Confi
   value_said (other, other_named, value) = subst (λ n. option_map string_bytes (get_by_text variables n) ≡ Some (codes "1")) (same_Some other name (sym other_named ∙ named)) value
 
   pub set_to : (value : String Global) (told : Bool) → get_by_text variables name ≡ Some value → told ≡ pointwise nat_eq (string_bytes value) (codes "1") → IsTrue told ↔ IsEnabled variables feature
-  set_to value told found tested =
-      let seen : option_map string_bytes (get_by_text variables name) ≡ Some (string_bytes value) = ap (option_map string_bytes) found in (
-        λ yes. (name, named, seen ∙ ap Some ((bytes_decides (string_bytes value) (codes "1")).0 (sym tested ∙ yes))),
-        λ enabled. tested ∙ (bytes_decides (string_bytes value) (codes "1")).1 (same_Some (string_bytes value) (codes "1") (sym seen ∙ value_said enabled)),
-      )
+  set_to h0 told found tested = search rules
 
   pub not_set : get_by_text variables name ≡ None → IsTrue false ↔ IsEnabled variables feature
   not_set missing = (λ yes. cc yes, λ enabled. absurd (none-some (codes "1") (sym (ap (option_map string_bytes) missing) ∙ value_said enabled)))

@@ -1,5 +1,5 @@
 -- How often a list is halved: the laws of one step, and the bound by the number of binary digits.
-use Rattle.std.proofs.Common.{◌≡◌, ℕ, zero, suc, ◌+◌, ◌-◌, ◌/◌, ◌^◌, ◌<◌, ◌≤◌, true, false, ltb, inl, inr, refl, sym, ap, ◌∙◌, pow-suc, arith}
+use Rattle.std.proofs.Common.{◌≡◌, ℕ, zero, suc, ◌+◌, ◌-◌, ◌/◌, ◌^◌, ◌<◌, ◌≤◌, true, false, ltb, inl, inr, refl, sym, ap, ◌∙◌, pow-suc, arith, rules}
 use Rattle.std.proofs.lemmas.Bool.{cases_lt}
 use Rattle.std.proofs.lemmas.Bool.Decides.{nat_tests}
 use Rattle.nextest_config.specs.Choice.Halvings.{halvings, halvings_within}
@@ -14,8 +14,7 @@ not_below a b h = grind (arith, nat_tests)
 
 within_one : (most n i : ℕ) → n ≤ 1 → halvings_within most n i ≡ 0
 unfolding halvings_within
-within_one zero n i few = refl
-within_one (suc most) n i few = rw (below n 2 (omega arith)) refl
+within_one most n i few = search rules
 
 within_first : (most n i : ℕ) → 2 ≤ n → i < n / 2 → halvings_within (suc most) n i ≡ suc (halvings_within most (n / 2) i)
 unfolding halvings_within

@@ -93,10 +93,7 @@ last_or_below i n within = ⊎_elim inl (λ past. inr (omega (arith, within, pas
 -- one more element
 module _ (items : Items) (count : ℕ) (text : List ℕ) (here : text_in (get_item count items) ≡ Some text) where
   among_more : (other : List ℕ) → IsAmongFirst (count + 1) items other ↔ (IsAmongFirst count items other ⊎ (text ≡ other))
-  among_more other = (
-    λ (index, below, is). ⊎_map (λ earlier. (index, earlier, is)) (λ last. same_Some text other (sym here ∙ ap (λ i. text_in (get_item i items)) (sym last) ∙ is)) (last_or_below index count below),
-    ⊎_elim (λ (index, below, is). (index, omega arith, is)) (λ same. (count, omega arith, here ∙ ap Some same)),
-  )
+  among_more other = search rules
 
   named_more : (before after : Features) → NamedSoFar items count before → AddsText before text after → NamedSoFar items (count + 1) after
   named_more before after so_far adds = record {
@@ -129,8 +126,7 @@ module _ (vs : List Value) (count : ℕ) (past : length vs ≤ count) where
   index_below index some = ⊎_elim (λ below. below) (λ beyond. absurd (false≢true (subst IsSome (sym (get_item_past vs index (omega arith))) some))) (cases_lt index count)
 
   some_text : (found : Option Data) (text : List ℕ) → text_in found ≡ Some text → IsSome found
-  some_text None text is = cc is
-  some_text (Some value) text is = refl
+  some_text found text is = search rules
 
   among_all : (text : List ℕ) → IsAmongFirst count (items_view vs) text ↔ IsAmong (items_view vs) text
   among_all text = (λ (index, below, is). (index, is), λ (index, is). (index, index_below index (some_text _ text is), is))

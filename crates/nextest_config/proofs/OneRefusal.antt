@@ -1,5 +1,5 @@
 -- A list of sources reads, or has one first refused position, with one error.
-use Rattle.std.proofs.Common.{◌≡◌, ◌⊎◌, ℕ, suc, List, [], ◌∷◌, ◌++◌, length, refl, sym, ap, ◌∙◌, subst, inl, inr}
+use Rattle.std.proofs.Common.{◌≡◌, ◌⊎◌, ℕ, suc, List, [], ◌∷◌, ◌++◌, length, refl, sym, ap, ◌∙◌, subst, inl, inr, rules}
 use Rattle.nextest_config.specs.NextestVersion.Source.{Source}
 use Rattle.nextest_config.specs.NextestVersion.{AreRead, IsFirstRefused, IsReadAs, IsRefused, Reads, Refusal, SourceAsk}
 use Rattle.nextest_config.specs.NextestVersion.VersionOnlyLaws.{one_error, read_not_refused, read_or_refused}
@@ -11,8 +11,7 @@ none_refused before source after asked refusal read refused =
     read_not_refused source found.0.ask refusal found.1.read refused
 
 reads_after : (source : Source) (sources : List Source) → Reads (source ∷ sources) → Reads sources
-reads_after source sources ([], read) = absurd read
-reads_after source sources (a ∷ asked, read) = (asked, read.1)
+reads_after source sources h2 = search rules
 
 -- two refused sources after sources that read are one
 one_place : (b c : List Source) (s t : Source) (a d : List Source) (r q : Refusal) → b ++ (s ∷ a) ≡ c ++ (t ∷ d) → Reads b → Reads c → IsRefused s r → IsRefused t q → (b ≡ c) × (s ≡ t)

@@ -49,8 +49,7 @@ in_order_are : (required recommended : Option Parts) (asked : Versions) → (in_
 in_order_are required recommended asked h = search rules
 
 table_plain : (table : Members) (asked : Versions) → version_table.means table asked → AsksPlain asked
-table_plain table asked (required, of_required, (recommended, of_recommended, h)) =
-    rw (in_order_are required recommended asked h) (record { of_required = role_plain required_key table required of_required; of_recommended = role_plain recommended_key table recommended of_recommended })
+table_plain h0 asked h2 = search rules
 
 value_plain : (value : Data) (asked : Versions) → versions_reading.means value asked → AsksPlain asked
 value_plain value = either_all AsksPlain _ _ (λ text asked h. rw h.2 (record { of_required = (h.1.0, h.1.2); of_recommended = tt })) (either_all AsksPlain _ _ table_plain (λ asked h. absurd h) (as_table value)) (as_str value)
@@ -59,8 +58,7 @@ asked_plain : (table : Members) (asked : Versions) → AsksVersions table asked 
 asked_plain table = either_all AsksPlain _ _ value_plain (λ asked h. rw h (record { of_required = tt; of_recommended = tt })) (get_member version_key table)
 
 pub text_plain : (edition : Edition) (kind : ConfigSourceKind) (contents : Option (List ℕ)) (ask : Ask) → TextAsks edition kind contents ask → AsksPlain ask.versions
-text_plain edition kind None ask h = rw h (record { of_required = tt; of_recommended = tt })
-text_plain edition kind (Some text) ask h = asked_plain h.0 ask.versions h.2.of_versions
+text_plain edition kind contents ask h = search rules
 
 abbrev pub IsPlainAsked : SourceAsk → Type 0
 IsPlainAsked asked = AsksPlain asked.ask.versions
@@ -91,17 +89,10 @@ neither_greater : (x y : ℕ) (P Q : Type 0) → (y < x) ⊎ ((x ≡ y) × P) �
 neither_greater x y P Q h k = search (rules, arith)
 
 same_numbers : (m n : Numbers) → IsEnoughByNumbers (plain m) n → IsEnoughByNumbers (plain n) m → m ≡ n
-same_numbers m n h k =
-    let major = neither_greater m.0 n.0 _ _ h k in
-    let minor = neither_greater m.1 n.1 _ _ major.1.0 major.1.1 in
-    let patch = neither_greater m.2 n.2 _ _ minor.1.0 minor.1.1 in
-    ap (λ (x : ℕ). (x, m.1, m.2)) major.0 ∙ ap (λ (x : ℕ). (n.0, x, m.2)) minor.0 ∙ ap (λ (x : ℕ). (n.0, n.1, x)) patch.0
+same_numbers m n h k = search rules
 
 pub same_version : (v w : Parts) → IsPlainVersion (Some v) → IsPlainVersion (Some w) → ¬ IsBelow v w → ¬ IsBelow w v → v ≡ w
-same_version v w p q above below =
-    let m_enough : ¬ IsBelow (plain p.0) (plain q.0) = subst (λ (u : Parts). ¬ IsBelow u (plain q.0)) p.1 (subst (λ (u : Parts). ¬ IsBelow v u) q.1 above) in
-    let n_enough : ¬ IsBelow (plain q.0) (plain p.0) = subst (λ (u : Parts). ¬ IsBelow u (plain p.0)) q.1 (subst (λ (u : Parts). ¬ IsBelow w u) p.1 below) in
-    p.1 ∙ ap plain (same_numbers p.0 q.0 ((not_below_by_numbers (plain p.0) q.0).0 m_enough) ((not_below_by_numbers (plain q.0) p.0).0 n_enough)) ∙ sym q.1
+same_version v w p q above below = search rules
 
 same_named : (v w : Verdict) → gravity v ≡ gravity w → NamesPlain v → NamesPlain w → NamesNoGreater v w → NamesNoGreater w v → named_version v ≡ named_version w
 same_named v w e p q h k = search (rules, arith, same_version)

@@ -65,7 +65,4 @@ refused_reading sources pieces.Memory first = record { only = λ reads. refl; re
 
 -- a refused reading without its position
 pub error_of_reading : (sources : List Source) (position : ℕ) (error : ConfigParseError) → IsRefusedReading sources (pieces.Refused position error) → IsErrorOfReading sources error
-error_of_reading sources position error reading = record {
-  only = λ reads. absurd (reads_not_refused sources position reading.refused.0 reads reading.refused.2);
-  refused = rw reading.refused.1 (position, reading.refused.2);
-}
+error_of_reading sources position error reading = search rules

@@ -31,25 +31,15 @@ module _ (tell : Shortfall → Verdict) (severity : ℕ) (grave : (s : Shortfall
     names_asked : gravity v ≡ severity → named_version v ≡ asked
 
   in_tier : (place : SourcePlace) (asked : Option Parts) (lower : Verdict) → gravity lower < severity → IsInTier asked (told tell current overridden place asked lower)
-  in_tier place None lower below = record { no_graver = omega arith; names_asked = λ e. absurd (omega arith) }
-  in_tier place (Some v) lower below = elim (cases_Bool (is_below current v)) [
-    | inl short ↦
-        let s : Shortfall = short_of (record { version = v; place = place }) current overridden in
-        rw short (record { no_graver = omega (arith, grave s); names_asked = λ e. names s })
-    | inr enough ↦ rw enough (record { no_graver = omega arith; names_asked = λ e. absurd (omega arith) })
-  ]
+  in_tier place asked lower below = search rules
 
   no_greater_named : (kept : Kept) (asked : Option Parts) (v : Verdict) → IsInTier asked v → IfSome asked (λ w. ¬ IsBelow kept.version w)
       → IsNoGreaterOfItsKind (tell (short_of kept current overridden)) v
-  no_greater_named kept asked v inside no_greater as_grave =
-      let same = inside.names_asked (as_grave ∙ grave (short_of kept current overridden)) in
-      rw (names (short_of kept current overridden), same) no_greater
+  no_greater_named kept asked v inside no_greater as_grave = search rules
 
   other_named : (kept : Kept) (asked : Option Parts) (v : Verdict) → IsInTier asked v → asked ≢ Some kept.version
       → IsOtherOfItsKind (tell (short_of kept current overridden)) v
-  other_named kept asked v inside other as_grave e =
-      let s : Shortfall = short_of kept current overridden in
-      other (sym (inside.names_asked (as_grave ∙ grave s)) ∙ e ∙ names s)
+  other_named kept asked v inside other as_grave e = search rules
 
   -- an unmet version that is the greatest asked is told by the gravest
   gravest_in_tier : (role : Ask → Option Parts) (lower : SourceAsk → Verdict) (asked : List SourceAsk) (kept : Kept)

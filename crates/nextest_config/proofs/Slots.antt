@@ -61,8 +61,7 @@ pub from_in : (slot : ℕ) (asked : Option Version) → IsFrom slot (option_map 
 from_in slot asked = search rules
 
 same_version : (slot : ℕ) (asked : Option Version) → IsPlainVersion (option_map parts_of asked) → option_map version_at (option_map (slot_version slot) asked) ≡ option_map parts_of asked
-same_version slot None plain = refl
-same_version slot (Some version) (numbers, is) = ap Some (ap (λ (v : Parts). plain (v.0, v.1, v.2)) is ∙ sym is)
+same_version slot asked plain = search rules
 
 -- the slot keeps the versions that are asked
 pub same_versions : (slot : ℕ) (asked : NextestVersionDeserialize) → AsksPlain (versions_of asked) → versions (option_map version_at (pair_in slot asked).required) (option_map version_at (pair_in slot asked).recommended) ≡ versions_of asked
@@ -77,15 +76,13 @@ module _ (whole : List (Option ConfigSource)) where
   IsKept (Some asked) kept = (one : Kept) × (kept ≡ Some one) × (one.version ≡ version_at asked) × (kept_in whole (Some asked) ≡ Some one)
 
   kept_is : (asked : Option SlotVersion) (kept : Option Kept) → IsKept asked kept → kept_in whole asked ≡ kept
-  kept_is None kept is = sym is
-  kept_is (Some asked) kept (one, is, version, found) = found ∙ sym is
+  kept_is asked kept is = search rules
 
   joined : (a b : Option SlotVersion) (k l : Option Kept) → IsKept a k → IsKept b l → IsKept (later_asked a b) (join_kept k l)
   joined a b k l h m = search rules
 
   from_slot : (source : ConfigSource) (slot : ℕ) (asked : Option SlotVersion) → get_or whole slot None ≡ Some source → IsFrom slot asked → IsKept asked (role_from (place_of source) (option_map version_at asked))
-  from_slot source slot None here is = refl
-  from_slot source slot (Some asked) here is = (record { version = version_at asked; place = place_of source }, refl, refl, rw (is, here) refl)
+  from_slot source slot asked here is = search rules
 
   record AllKept (pair : RolePair) (asked : List SourceAsk) : Type 0 where
     roles : Roles
@@ -133,5 +130,4 @@ module _ (whole : List (Option ConfigSource)) where
 -- the same slots and the same verdict
 pub selected_as : (before after : List (Option SourceAsk)) (v w : Verdict) (current : Parts) (overridden : Bool) → before ≡ after → v ≡ w → IsSelected (map (alone current overridden) (board_list before)) v
     → IsSelected (map (alone current overridden) (board_list after)) w
-selected_as before after v w current overridden same told selected =
-    subst (λ (slots : List (Option SourceAsk)). IsSelected (map (alone current overridden) (board_list slots)) w) same (subst (λ (u : Verdict). IsSelected (map (alone current overridden) (board_list before)) u) told selected)
+selected_as before after v w current overridden same told selected = search rules

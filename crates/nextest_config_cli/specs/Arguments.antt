@@ -17,7 +17,7 @@ use Rattle.nextest_config.specs.declared.nextest_version.edition.Edition.{Editio
 use Rattle.nextest_config.specs.declared.nextest_version.edition.Edition.TheVariants.{ArrayAllowed, TableOnly}
 use Rattle.nextest_config_command.specs.Request.{all_wanted}
 use Rattle.nextest_config_command.specs.Words.{misuse_in, text, wanted_in}
-use Rattle.nextest_config_command.specs.declared.request.Check.{Check}
+use Rattle.nextest_config_command.specs.declared.request.CheckTask.{CheckTask}
 use Rattle.nextest_config_command.specs.declared.request.LintOptions.{LintOptions}
 use Rattle.nextest_config_command.specs.declared.request.ProfileTask.{ProfileTask}
 use Rattle.nextest_config_command.specs.declared.request.Request.{Request}
@@ -30,8 +30,8 @@ use Rattle.nextest_config_lint.specs.Explain.Topic.{topic_word}
 use Rattle.nextest_config_profiles.specs.Report.Wanted.{dotted, IsKeyNamed, path_of, told_paths}
 use Rattle.nextest_config_profiles.specs.declared.report.wanted.WantedKey.{WantedKey}
 use Rattle.nextest_config_lint.specs.declared.explain.topic.Topic.{Topic}
-use Rattle.nextest_config_cli.specs.declared.refusal.Refusal.{Refusal}
-use Rattle.nextest_config_cli.specs.declared.refusal.Refusal.TheVariants as refusal
+use Rattle.nextest_config_cli.specs.declared.usage_error.UsageError.{UsageError}
+use Rattle.nextest_config_cli.specs.declared.usage_error.UsageError.TheVariants as refusal
 use Rattle.nextest_config_cli.specs.declared.arguments.Arguments.{Arguments}
 use Rattle.nextest_config_cli.specs.declared.arguments.Explained.{Explained}
 use Rattle.nextest_config_cli.specs.declared.arguments.Explained.TheVariants as explained
@@ -47,18 +47,18 @@ abbrev pub edition_of : Bool → Edition
 edition_of true = TableOnly
 edition_of false = ArrayAllowed
 
--- how findings are told, and which count
+-- how findings are reported, and which count
 pub record AsksLint (arguments : Arguments) (options : LintOptions) : Type 0 where
   pub format : text arguments.format ≡ Some (format_word options.format)
   pub strict : options.strict ≡ arguments.strict
   pub allowed : map code_word options.allowed.items ≡ texts arguments.allowed.now
 
 -- the current version of a check is the one that a word spells (SemVer 2.0.0)
-abbrev pub IsVersion : Option (List ℕ) → Check → Type 0
+abbrev pub IsVersion : Option (List ℕ) → CheckTask → Type 0
 IsVersion word check = MatchOption word ⊥ (λ word. version_parts word ≡ Ok (parts_of check.current))
 
--- the check: the current version, whether its check is overridden, and how findings are told
-pub record AsksCheck (arguments : Arguments) (check : Check) : Type 0 where
+-- the check: the current version, whether its check is overridden, and how findings are reported
+pub record AsksCheck (arguments : Arguments) (check : CheckTask) : Type 0 where
   pub current : IsVersion (text arguments.current) check
   pub overridden : check.override_version_check ≡ arguments.overridden
   pub lint : AsksLint arguments check.lint
@@ -67,8 +67,8 @@ pub record AsksCheck (arguments : Arguments) (check : Check) : Type 0 where
 abbrev pub IsKey : List ℕ → WantedKey → Type 0
 IsKey word key = IsKeyNamed word (Some (path_of key))
 
--- the profile that is told: its name, whether with what values hide, the keys of which alone it is
--- told, and the format
+-- the profile that is reported: its name, whether with what values hide, the keys that alone are
+-- reported, and the format
 pub record AsksProfile (arguments : Arguments) (profile : ProfileTask) : Type 0 where
   pub name : text arguments.profile ≡ Some (string_bytes profile.name)
   pub all : profile.all ≡ arguments.all
@@ -77,8 +77,10 @@ pub record AsksProfile (arguments : Arguments) (profile : ProfileTask) : Type 0 
 
 -- the subcommand, with what it takes
 abbrev pub AsksTask : Arguments → Task → Type 0
-AsksTask arguments (task.Check check) = (arguments.subcommand.now ≡ codes "check") × AsksCheck arguments check
-AsksTask arguments (task.Lint options) = (arguments.subcommand.now ≡ codes "lint") × AsksLint arguments options
+AsksTask arguments (task.Check check) =
+    (arguments.subcommand.now ≡ codes "check") × AsksCheck arguments check
+AsksTask arguments (task.Lint options) =
+    (arguments.subcommand.now ≡ codes "lint") × AsksLint arguments options
 AsksTask arguments (task.Profile profile) =
     (arguments.subcommand.now ≡ codes "profile") × AsksProfile arguments profile
 AsksTask arguments (task.Show format) = (arguments.subcommand.now ≡ codes "show")
@@ -117,13 +119,13 @@ IsNoKey word near = IsKeyNamed word None
     × IsNearest (map dotted told_paths) word (option_map string_bytes near)
 
 -- why a word isn't taken for a key: it names none, or memory ran out
-abbrev pub RefusesKey : List ℕ → Refusal → Type 0
+abbrev pub RefusesKey : List ℕ → UsageError → Type 0
 RefusesKey word (refusal.NotKey other near) = (other.now ≡ word) × IsNoKey word near
 RefusesKey word refusal.Memory = Unit {0}
 RefusesKey word other = ⊥
 
 -- why nothing is asked for of which this holds: a word is wrong, or no such thing fits the words
-abbrev pub IsRefused : {X : Type 0} → (X → Type 0) → Arguments → Refusal → Type 0
+abbrev pub IsRefused : {X : Type 0} → (X → Type 0) → Arguments → UsageError → Type 0
 IsRefused IsAsked arguments (refusal.NotVersion word) =
     (text arguments.current ≡ Some word.now) × IsNoVersion word.now
 IsRefused IsAsked arguments (refusal.NotCode word) =
@@ -155,13 +157,13 @@ AsksExplained (Some word) (explained.Topic topic) = topic_word topic ≡ word
 AsksExplained (Some word) asked = IsNoTopic word × IsKeyAsked word asked
 
 -- why no key is explained: the word leads to none, with the nearest topic or key; or memory ran out
-abbrev pub IsNoKeyAsked : List ℕ → Refusal → Type 0
+abbrev pub IsNoKeyAsked : List ℕ → UsageError → Type 0
 IsNoKeyAsked word (refusal.NotTopic other near) = (other.now ≡ word) × (key_at word ≡ None)
     × IsNearest explained_words (below_profile word) (option_map string_bytes near)
 IsNoKeyAsked word refusal.Memory = Unit {0}
 IsNoKeyAsked word other = ⊥
 
 -- why no explanation is asked for: the word is no topic and leads to no key, or memory ran out
-abbrev pub IsExplainedRefused : Option (List ℕ) → Refusal → Type 0
+abbrev pub IsExplainedRefused : Option (List ℕ) → UsageError → Type 0
 IsExplainedRefused None refused = ⊥
 IsExplainedRefused (Some word) refused = IsNoTopic word × IsNoKeyAsked word refused

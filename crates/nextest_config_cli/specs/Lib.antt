@@ -1,4 +1,4 @@
 pub mod Matches
-pub mod Refusal
+pub mod UsageError
 pub mod Said
 pub mod Arguments

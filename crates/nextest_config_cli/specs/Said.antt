@@ -9,8 +9,8 @@ use Rattle.nextest_config_cli.specs.declared.arguments.Explained.{Explained}
 use Rattle.nextest_config_cli.specs.declared.arguments.Explained.TheVariants as explained
 use Rattle.nextest_config_values.specs.Literal.Shown.{shown_lines, shown_text}
 use Rattle.toml_spans.specs.QuotedText.{quoted_text}
-use Rattle.nextest_config_cli.specs.declared.refusal.Refusal.{Refusal}
-use Rattle.nextest_config_cli.specs.declared.refusal.Refusal.TheVariants as refusal
+use Rattle.nextest_config_cli.specs.declared.usage_error.UsageError.{UsageError}
+use Rattle.nextest_config_cli.specs.declared.usage_error.UsageError.TheVariants as refusal
 
 -- what is said of a topic or of a key, or the list of all topics
 abbrev pub Explains : Explained → List ℕ → Type 0
@@ -41,7 +41,7 @@ no_key_text path None = codes "no key " ++ (shown_text (quoted_text path) ++ cod
 
 -- the lines of a refusal: what others wrote in them is shown, as the words, and the texts of `clap`
 -- and of the system
-abbrev pub Says : Refusal → List ℕ → Type 0
+abbrev pub Says : UsageError → List ℕ → Type 0
 Says (refusal.Clap error) lines = (text : List ℕ) × (lines ≡ shown_lines text)
 Says (refusal.Words said) lines = lines ≡ said.now ++ codes "\n"
 Says (refusal.NotVersion word) lines =

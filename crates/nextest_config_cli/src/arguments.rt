@@ -7,9 +7,11 @@ ghost use Rattle.nextest_config_lint.specs.Code.{code_word};
 ghost use Rattle.nextest_config_cli.specs.Arguments.{Asks, AsksCheck, AsksExplained, AsksLint, AsksProfile, AsksTask, edition_of, IsExplainedRefused, IsKey, IsKeyAsked, IsNoKeyAsked, IsRefused, IsTool, RefusesKey, texts};
 
 use crate::command_line::{CHECK, LINT, PROFILE, SHOW};
-use crate::refusal::Refusal;
+use crate::usage_error::UsageError;
 use nextest_config::nextest_version::Edition;
-use nextest_config_command::{Check, FindingCode, LintOptions, ProfileTask, Request, Task, Words};
+use nextest_config_command::{
+    CheckTask, FindingCode, LintOptions, ProfileTask, Request, Task, Words,
+};
 use nextest_config_lint::explain::{KeyExplanation, Topic, nearest_topic_or_key};
 use nextest_config_profiles::report::WantedKey;
 use nextest_config_values::read::Word;
@@ -39,14 +41,14 @@ pub(crate) struct Arguments<'m, 'a> {
 pub(crate) fn request<'a>(
     alloc: Global,
     arguments: &Arguments<'_, 'a>,
-) -> Result<Request, Refusal<'a>>
+) -> Result<Request, UsageError<'a>>
     ensures asked { IfOk result (Asks arguments.now) }
     ensures refused { IfErr result (IsRefused (Asks arguments.now) arguments.now) }
 {
     let task = task(alloc, arguments)?;
     let tools = tools(alloc, arguments)?;
     if let Some(misuse) = arguments.files.misuse() {
-        return Err(Refusal::Words(misuse.as_str()));
+        return Err(UsageError::Words(misuse.as_str()));
     }
     let repository = arguments.files.repository_files(alloc)?;
     Ok(Request {
@@ -69,7 +71,7 @@ fn edition(table_only: bool) -> Edition
 }
 
 // What is done with the files.
-fn task<'a>(alloc: Global, arguments: &Arguments<'_, 'a>) -> Result<Task, Refusal<'a>>
+fn task<'a>(alloc: Global, arguments: &Arguments<'_, 'a>) -> Result<Task, UsageError<'a>>
     ensures asked { IfOk result (AsksTask arguments.now) }
     ensures refused { IfErr result (IsRefused (AsksTask arguments.now) arguments.now) }
 {
@@ -79,41 +81,41 @@ fn task<'a>(alloc: Global, arguments: &Arguments<'_, 'a>) -> Result<Task, Refusa
         PROFILE => Ok(Task::Profile(profile(alloc, arguments)?)),
         SHOW => match value_of(arguments.format) {
             Some(format) => Ok(Task::Show(format)),
-            None => Err(Refusal::Words("no format is named")),
+            None => Err(UsageError::Words("no format is named")),
         },
-        _ => Err(Refusal::Words("the subcommand isn't known")),
+        _ => Err(UsageError::Words("the subcommand isn't known")),
     }
 }
 
-fn check<'a>(alloc: Global, arguments: &Arguments<'_, 'a>) -> Result<Check, Refusal<'a>>
+fn check<'a>(alloc: Global, arguments: &Arguments<'_, 'a>) -> Result<CheckTask, UsageError<'a>>
     ensures asked { IfOk result (AsksCheck arguments.now) }
     ensures refused { IfErr result (IsRefused (AsksCheck arguments.now) arguments.now) }
 {
     let lint = lint_options(alloc, arguments)?;
     let Some(word) = arguments.current else {
-        return Err(Refusal::Words("no current version is given"));
+        return Err(UsageError::Words("no current version is given"));
     };
     match Version::parse(alloc, word) {
-        Ok(current) => Ok(Check {
+        Ok(current) => Ok(CheckTask {
             current,
             override_version_check: arguments.overridden,
             lint,
         }),
-        Err(error) if error == semver::Error::from(AllocError) => Err(Refusal::Memory),
-        Err(_) => Err(Refusal::NotVersion(word)),
+        Err(error) if error == semver::Error::from(AllocError) => Err(UsageError::Memory),
+        Err(_) => Err(UsageError::NotVersion(word)),
     }
 }
 
-// How findings are told, and which count.
+// How findings are reported, and which count.
 fn lint_options<'a>(
     alloc: Global,
     arguments: &Arguments<'_, 'a>,
-) -> Result<LintOptions, Refusal<'a>>
+) -> Result<LintOptions, UsageError<'a>>
     ensures asked { IfOk result (AsksLint arguments.now) }
     ensures refused { IfErr result (IsRefused (AsksLint arguments.now) arguments.now) }
 {
     let Some(format) = value_of(arguments.format) else {
-        return Err(Refusal::Words("no format is named"));
+        return Err(UsageError::Words("no format is named"));
     };
     Ok(LintOptions {
         format,
@@ -123,7 +125,10 @@ fn lint_options<'a>(
 }
 
 // The codes of findings that are left out.
-fn codes<'a>(alloc: Global, arguments: &Arguments<'_, 'a>) -> Result<Vec<FindingCode>, Refusal<'a>>
+fn codes<'a>(
+    alloc: Global,
+    arguments: &Arguments<'_, 'a>,
+) -> Result<Vec<FindingCode>, UsageError<'a>>
     ensures codes { IfOk result (λ codes.
         map code_word codes.items ≡ texts arguments.now.allowed.now) }
     ensures refused { IfErr result (IsRefused (AsksLint arguments.now) arguments.now) }
@@ -131,24 +136,24 @@ fn codes<'a>(alloc: Global, arguments: &Arguments<'_, 'a>) -> Result<Vec<Finding
     let mut codes = Vec::new(alloc);
     for &word in arguments.allowed {
         let Some(code) = value_of(Some(word)) else {
-            return Err(Refusal::NotCode(word));
+            return Err(UsageError::NotCode(word));
         };
         let Ok(()) = codes.push(code) else {
-            return Err(Refusal::Memory);
+            return Err(UsageError::Memory);
         };
     }
     Ok(codes)
 }
 
-fn profile<'a>(alloc: Global, arguments: &Arguments<'_, 'a>) -> Result<ProfileTask, Refusal<'a>>
+fn profile<'a>(alloc: Global, arguments: &Arguments<'_, 'a>) -> Result<ProfileTask, UsageError<'a>>
     ensures asked { IfOk result (AsksProfile arguments.now) }
     ensures refused { IfErr result (IsRefused (AsksProfile arguments.now) arguments.now) }
 {
     let Some(format) = value_of(arguments.format) else {
-        return Err(Refusal::Words("no format is named"));
+        return Err(UsageError::Words("no format is named"));
     };
     let Some(name) = arguments.profile else {
-        return Err(Refusal::Words("no profile is named"));
+        return Err(UsageError::Words("no profile is named"));
     };
     Ok(ProfileTask {
         name: String::from_str(alloc, name)?,
@@ -158,11 +163,11 @@ fn profile<'a>(alloc: Global, arguments: &Arguments<'_, 'a>) -> Result<ProfileTa
     })
 }
 
-// The keys of a profile of which alone it is told.
+// The keys of a profile that alone are reported.
 fn wanted_keys<'a>(
     alloc: Global,
     arguments: &Arguments<'_, 'a>,
-) -> Result<Vec<WantedKey>, Refusal<'a>>
+) -> Result<Vec<WantedKey>, UsageError<'a>>
     ensures keys { IfOk result (λ keys. AllZip IsKey (texts arguments.now.keys.now) keys.items) }
     ensures refused { IfErr result (IsRefused (AsksProfile arguments.now) arguments.now) }
 {
@@ -170,19 +175,19 @@ fn wanted_keys<'a>(
     for word in arguments.keys {
         let key = wanted_key(alloc, word)?;
         let Ok(()) = keys.push(key) else {
-            return Err(Refusal::Memory);
+            return Err(UsageError::Memory);
         };
     }
     Ok(keys)
 }
 
 // The key that a word names, or that there is none.
-fn wanted_key<'a>(alloc: Global, word: &'a str) -> Result<WantedKey, Refusal<'a>>
+fn wanted_key<'a>(alloc: Global, word: &'a str) -> Result<WantedKey, UsageError<'a>>
     ensures { MatchResult result (IsKey word.now) (RefusesKey word.now) }
 {
     match WantedKey::from_path(alloc, word)? {
         Some(key) => Ok(key),
-        None => Err(Refusal::NotKey(word, WantedKey::nearest(alloc, word)?)),
+        None => Err(UsageError::NotKey(word, WantedKey::nearest(alloc, word)?)),
     }
 }
 
@@ -190,7 +195,7 @@ fn wanted_key<'a>(alloc: Global, word: &'a str) -> Result<WantedKey, Refusal<'a>
 fn tools<'a>(
     alloc: Global,
     arguments: &Arguments<'_, 'a>,
-) -> Result<Vec<ToolConfigFile>, Refusal<'a>>
+) -> Result<Vec<ToolConfigFile>, UsageError<'a>>
     ensures tools { IfOk result (λ tools.
         AllZip IsTool (texts arguments.now.tools.now) tools.items) }
     ensures refused { IfErr result (IsRefused (Asks arguments.now) arguments.now) }
@@ -199,7 +204,7 @@ fn tools<'a>(
     for word in arguments.tools {
         let tool = ToolConfigFile::from_str(alloc, word)?;
         let Ok(()) = tools.push(tool) else {
-            return Err(Refusal::Memory);
+            return Err(UsageError::Memory);
         };
     }
     Ok(tools)
@@ -238,7 +243,7 @@ pub(crate) enum Explained {
 pub(crate) fn explained_by<'a>(
     alloc: Global,
     word: Option<&'a str>,
-) -> Result<Explained, Refusal<'a>>
+) -> Result<Explained, UsageError<'a>>
     ensures { MatchResult result (AsksExplained (text word.entry))
         (IsExplainedRefused (text word.entry)) }
 {
@@ -252,11 +257,11 @@ pub(crate) fn explained_by<'a>(
 }
 
 // The key to which a word leads that is no topic, or that there is none.
-fn explained_key<'a>(alloc: Global, word: &'a str) -> Result<Explained, Refusal<'a>>
+fn explained_key<'a>(alloc: Global, word: &'a str) -> Result<Explained, UsageError<'a>>
     ensures { MatchResult result (IsKeyAsked word.now) (IsNoKeyAsked word.now) }
 {
     match KeyExplanation::of(alloc, word)? {
         Some(key) => Ok(Explained::Key(key)),
-        None => Err(Refusal::NotTopic(word, nearest_topic_or_key(alloc, word)?)),
+        None => Err(UsageError::NotTopic(word, nearest_topic_or_key(alloc, word)?)),
     }
 }

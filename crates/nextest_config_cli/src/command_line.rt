@@ -127,7 +127,7 @@ fn schema_command<'a>(alloc: Global) -> Result<Command<'a>, AllocError> {
     Ok(Command::new(alloc, SCHEMA).about(about))
 }
 
-// The command with what says how findings are told, and which count.
+// The command with what says how findings are reported, and which count.
 fn with_lint<'a>(alloc: Global, command: Command<'a>) -> Result<Command<'a>, AllocError> {
     let strict = "Fail at a warning, too, and where no .config/nextest.toml is found";
     let allow = "Leave out the findings of a code; a check tells those for which it refuses";

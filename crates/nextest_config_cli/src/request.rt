@@ -10,7 +10,7 @@ use crate::command_line::{
     SCHEMA, STDIN_PATH, STRICT, TABLE_ONLY, TOOL_CONFIG_FILE, TOPIC, command,
 };
 use crate::file_system::current_folder;
-use crate::refusal::Refusal;
+use crate::usage_error::UsageError;
 use clap::ArgMatches;
 use nextest_config_command::{Request, Words};
 use nextest_config_values::literal::Shown;
@@ -19,7 +19,7 @@ use std::io;
 
 /// What the words ask for.
 #[derive(Drop)]
-pub(crate) enum Asked {
+pub(crate) enum Usage {
     Request(Request),
     Explanation(Explained),
     /// The schema of a configuration file.
@@ -27,28 +27,28 @@ pub(crate) enum Asked {
 }
 
 /// What the words ask for, the first of which is the program's name.
-pub(crate) fn parse<'a>(rt: &HostRuntime, words: &'a [String]) -> Result<Asked, Refusal<'a>> {
+pub(crate) fn parse<'a>(rt: &HostRuntime, words: &'a [String]) -> Result<Usage, UsageError<'a>> {
     let matches = matches(rt.alloc(), words)?;
     match matches.subcommand() {
         Some((EXPLAIN, matches)) => {
             let explained = explained_by(rt.alloc(), matches.get_str(TOPIC))?;
-            Ok(Asked::Explanation(explained))
+            Ok(Usage::Explanation(explained))
         }
-        Some((SCHEMA, _)) => Ok(Asked::Schema),
-        Some((name, matches)) => Ok(Asked::Request(request_of(rt, name, matches)?)),
-        None => Err(Refusal::Words("no subcommand is named")),
+        Some((SCHEMA, _)) => Ok(Usage::Schema),
+        Some((name, matches)) => Ok(Usage::Request(request_of(rt, name, matches)?)),
+        None => Err(UsageError::Words("no subcommand is named")),
     }
 }
 
 // What `clap` takes of the words. It repeats words as they are, so where it refuses them, what it
 // says of them as they are shown counts.
-fn matches<'a>(alloc: Global, words: &'a [String]) -> Result<ArgMatches<'a>, Refusal<'a>> {
+fn matches<'a>(alloc: Global, words: &'a [String]) -> Result<ArgMatches<'a>, UsageError<'a>> {
     match command(alloc)?.try_get_matches_from(words) {
         Ok(matches) => Ok(matches),
         Err(error) => {
             let shown = shown(alloc, words)?;
             command(alloc)?.try_get_matches_from(shown.as_slice())?;
-            Err(Refusal::from(error))
+            Err(UsageError::from(error))
         }
     }
 }
@@ -68,7 +68,7 @@ fn request_of<'a>(
     rt: &HostRuntime,
     subcommand: &'a str,
     matches: &ArgMatches<'a>,
-) -> Result<Request, Refusal<'a>>
+) -> Result<Request, UsageError<'a>>
     ensures { IfOk result (IsAskedBy subcommand.now (found_of matches.now)) }
 {
     match start(rt, matches) {
@@ -77,7 +77,7 @@ fn request_of<'a>(
             &arguments_of(subcommand, matches, folder.as_str()),
         ),
         Err(error) => match request(rt.alloc(), &arguments_of(subcommand, matches, "")) {
-            Ok(_) => Err(Refusal::of_current_folder(error)),
+            Ok(_) => Err(UsageError::of_current_folder(error)),
             Err(refusal) => Err(refusal),
         },
     }

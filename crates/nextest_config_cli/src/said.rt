@@ -4,7 +4,7 @@ ghost use Rattle.std.specs.Prelude.{◌≡◌, IfOk, option_map, string_bytes};
 ghost use Rattle.nextest_config_cli.specs.Said.{Explains, no_key_text, not_topic_text, Says, ShowsExplained};
 
 use crate::arguments::Explained;
-use crate::refusal::Refusal;
+use crate::usage_error::UsageError;
 use nextest_config_lint::explain::{Explanation, topic_list};
 use nextest_config_report::exit_status::ExitStatus;
 use nextest_config_report::streams::{
@@ -18,14 +18,14 @@ use std::io::Write;
 /// Says why the words ask for nothing, or what they ask `clap` for, and tells how the program ends.
 pub(crate) fn refuse<W: Write, E: Write>(
     alloc: Global,
-    refusal: &Refusal<'_>,
+    refusal: &UsageError<'_>,
     writer: &mut W,
     faults: &mut E,
 ) -> ExitStatus {
     let said = refusal_lines(alloc, refusal);
     match refusal {
-        Refusal::Clap(error) if !error.use_stderr() => show(said, writer, faults),
-        Refusal::CurrentFolder(_) => fail(said, ExitStatus::NoOutcome, faults),
+        UsageError::Clap(error) if !error.use_stderr() => show(said, writer, faults),
+        UsageError::CurrentFolder(_) => fail(said, ExitStatus::NoOutcome, faults),
         _ => fail(said, ExitStatus::Refused, faults),
     }
 }
@@ -87,22 +87,25 @@ fn explanation(alloc: Global, explained: Explained) -> Result<String, AllocError
 }
 
 // The lines that say why the words ask for nothing, unless memory ran out.
-fn refusal_lines(alloc: Global, refusal: &Refusal<'_>) -> Result<String, AllocError>
+fn refusal_lines(alloc: Global, refusal: &UsageError<'_>) -> Result<String, AllocError>
     ensures { IfOk result (λ lines. Says refusal.now (string_bytes lines)) }
 {
     match refusal {
-        Refusal::Clap(error) => shown_lines(alloc, error.to_string(alloc)?),
-        Refusal::Words(said) => format!(in alloc; "{said}\n"),
-        Refusal::NotVersion(word) => format!(in alloc; "{NOT_VERSION}{}\n", Shown(word)),
-        Refusal::NotCode(word) => format!(in alloc; "not a code: {}\n", Shown(word)),
-        Refusal::NotTopic(word, nearest) => not_topic(alloc, word, lent(nearest)),
-        Refusal::NotKey(word, nearest) => no_key(alloc, word, lent(nearest)),
-        Refusal::Tool(error) => format!(in alloc; "{}\n", Shown(error.to_string(alloc)?.as_str())),
-        Refusal::CurrentFolder(error) => {
+        UsageError::Clap(error) => shown_lines(alloc, error.to_string(alloc)?),
+        UsageError::Words(said) => format!(in alloc; "{said}\n"),
+        UsageError::NotVersion(word) => format!(in alloc; "{NOT_VERSION}{}\n", Shown(word)),
+        UsageError::NotCode(word) => format!(in alloc; "not a code: {}\n", Shown(word)),
+        UsageError::NotTopic(word, nearest) => not_topic(alloc, word, lent(nearest)),
+        UsageError::NotKey(word, nearest) => no_key(alloc, word, lent(nearest)),
+        UsageError::Tool(error) => format!(in alloc;
+            "{}\n",
+            Shown(error.to_string(alloc)?.as_str())
+        ),
+        UsageError::CurrentFolder(error) => {
             let reason = error.to_string(alloc)?;
             format!(in alloc; "current folder: {}\n", Shown(reason.as_str()))
         }
-        Refusal::Memory => Err(AllocError),
+        UsageError::Memory => Err(AllocError),
     }
 }
 

@@ -47,9 +47,9 @@ none_of_either P xs ys no_first no_second (k, x, within, is, holds) =
 -- ---- the range of a path
 
 -- what the index of a text tells of a path is its range
-pub range_told : (text : List ℕ) (index : Index) (path : List PathStep) (span : Option Span) → IsIndexOf text index → IsSpanOf text (range_at false (ranges_in index) path) span → IfSome span (IsRangeAt text path)
-range_told text index path None of_text is = tt
-range_told text index path (Some span) of_text is = record { index = index; of_text = of_text; is_range = is }
+pub range_reported : (text : List ℕ) (index : Index) (path : List PathStep) (span : Option Span) → IsIndexOf text index → IsSpanOf text (range_at false (ranges_in index) path) span → IfSome span (IsRangeAt text path)
+range_reported text index path None of_text is = tt
+range_reported text index path (Some span) of_text is = record { index = index; of_text = of_text; is_range = is }
 
 -- ---- whether a file asks
 

@@ -6,9 +6,9 @@ pub mod FilesFound
 pub mod FirstFailures
 pub mod LayersOfFiles
 pub mod LintStatus
-pub mod ProfilesTold
+pub mod ProfilesReported
 pub mod ShownToPeople
-pub mod VerdictsTold
+pub mod VerdictsReported
 pub mod Walks
 pub mod WantedPaths
 pub mod ZipFrom

@@ -55,15 +55,15 @@ none_located (one ∷ located) =
 
 -- ---- files
 
--- where no code is allowed, each finding is told
-pub all_told : (edition : Edition) (tells_refusals : Bool) (located : List LocatedFinding) → filter (tells (judging edition [] tells_refusals)) located ≡ located
-all_told edition tells_refusals [] = refl
-all_told edition tells_refusals (one ∷ located) = ap (λ rest. one ∷ rest) (all_told edition tells_refusals located)
+-- where no code is allowed, each finding is reported
+pub all_reported : (edition : Edition) (tells_refusals : Bool) (located : List LocatedFinding) → filter (tells (judging edition [] tells_refusals)) located ≡ located
+all_reported edition tells_refusals [] = refl
+all_reported edition tells_refusals (one ∷ located) = ap (λ rest. one ∷ rest) (all_reported edition tells_refusals located)
 
 file_passes : (edition : Edition) (list : List ListFile) (position : ℕ) (file : File) (found : FileFound) → IsFoundIn (judging edition [] false) list position file found
     → HasNone (severities_in found) ↔ HasNoError edition file
 file_passes edition list position file found is =
-    rw (is.located, all_told edition false is.all)
+    rw (is.located, all_reported edition false is.all)
     (iff.trans (none_located is.all) (no_error_in_file edition file.place.kind list position file.contents is.all is.are_located))
 
 files_pass : (edition : Edition) (list : List ListFile) (position : ℕ) (files : List File) (found : List FileFound) → AllZipFrom (IsFoundIn (judging edition [] false) list) position files found

@@ -1,12 +1,12 @@
 -- That people see printable texts alone.
-use Rattle.std.proofs.Common.{◌≡◌, ◌⊎◌, ◌∙◌, ◌++◌, ℕ, Bool, true, false, List, [], Option, ap, append-nil, codes, inl, inr, IsTrue, refl, string_bytes, subst, sym}
+use Rattle.std.proofs.Common.{◌≡◌, ◌⊎◌, ℕ, List, [], Option, append-nil, codes, inl, inr, IsTrue, refl, string_bytes, subst, sym}
 use Rattle.std.proofs.lemmas.Bool.{true≢false}
 use Rattle.std.proofs.KnownBytes.{Appends-kept, Appends-nil, Keeps-refl}
 use Rattle.std.specs.Io.KnownBytes.{Appends, Keeps}
 use Rattle.nextest_config_output.specs.declared.findings.format.Format.{Format}
 use Rattle.nextest_config_output.specs.declared.findings.format.Format.TheVariants as formats
 use Rattle.nextest_config_values.proofs.Printable.{printable_joined, printable_lines, printable_plain, printable_text}
-use Rattle.nextest_config_values.specs.Literal.Shown.{IsPrintable, shown_lines, shown_text}
+use Rattle.nextest_config_values.specs.Literal.Shown.{IsPrintable, shown_lines}
 use Rattle.nextest_config_report.specs.Streams.{AddsFront, AddsOrFails}
 use Rattle.nextest_config_report.specs.declared.show.ShowFormat.{ShowFormat}
 use Rattle.nextest_config_report.specs.declared.show.ShowFormat.TheVariants as shows
@@ -15,10 +15,10 @@ use Rattle.nextest_config_command.specs.Answer.{AnswerView, enough, not_enough, 
 use Rattle.nextest_config_command.specs.Done.{IsDone}
 use Rattle.nextest_config_command.specs.Files.{absent, bytes, folder, IsUnreadAt, PathState, PathStates, SaysUnread, unanswered_text, UnlessMemory, unreadable, unread_text}
 use Rattle.nextest_config_command.specs.Found.{FilesRead, IsFirstUnread, IsUnread, IsUnreadBy, IsUnreadFolder, IsUnreadIn, path_above, path_in}
-use Rattle.nextest_config_command.specs.Printed.{as_json, for_people, in_format, in_show_format, printed, Text}
+use Rattle.nextest_config_command.specs.Printed.{in_format, in_show_format, printed}
 use Rattle.nextest_config_command.specs.Profile.{faulty, reported, sound, without}
 use Rattle.nextest_config_command.specs.Request.{at_path, in_folder, input, named, nearest, Wanted}
-use Rattle.nextest_config_command.specs.Streams.{AddsPrintable, AddTwoPrintable, is_for_people, IsOutput, IsOutputAbout, IsSaidOfWrite, is_told_to_people, IsWritten, IsUnwritten, line_of}
+use Rattle.nextest_config_command.specs.Streams.{AddsPrintable, AddTwoPrintable, is_for_people, IsOutput, IsOutputAbout, IsSaidOfWrite, is_read_by_people, IsWritten, IsUnwritten, line_of}
 use Rattle.nextest_config_command.specs.declared.files.Unanswered.{Unanswered}
 use Rattle.nextest_config_command.specs.declared.files.Unanswered.TheVariants as fails
 use Rattle.nextest_config_command.specs.declared.request.Request.{Request}
@@ -46,21 +46,21 @@ Both answer = IsPrintable (printed answer.text) × IsPrintable (printed answer.s
 both_of : (answer other : AnswerView) → answer ≡ other → Both other → Both answer
 both_of answer other same both = subst Both (sym same) both
 
-pub people_see : (edition : Edition) (task : Task) (files : FilesRead) (answer : AnswerView) → IsTrue (is_told_to_people task) → IsDone edition task files answer → Both answer
+pub people_see : (edition : Edition) (task : Task) (files : FilesRead) (answer : AnswerView) → IsTrue (is_read_by_people task) → IsDone edition task files answer → Both answer
 people_see edition (tasks.Check check) files answer people (refused_list found refused are) = (in_format_printable check.lint.format _ people, printable_lines [])
-people_see edition (tasks.Check check) files answer people (not_enough configuration v front listed selected fails told) = (in_format_printable check.lint.format _ people, printable_lines [])
-people_see edition (tasks.Check check) files answer people (enough configuration v front found listed selected passes told are) = (in_format_printable check.lint.format _ people, printable_lines [])
+people_see edition (tasks.Check check) files answer people (not_enough configuration v front listed selected fails done) = (in_format_printable check.lint.format _ people, printable_lines [])
+people_see edition (tasks.Check check) files answer people (enough configuration v front found listed selected passes done are) = (in_format_printable check.lint.format _ people, printable_lines [])
 people_see edition (tasks.Lint options) files answer people linted =
     both_of answer _ linted.is (in_format_printable options.format _ people, printable_lines [])
 people_see edition (tasks.Show shows.Human) files answer people (refused_files found refused are) = (printable_lines _, printable_lines [])
 people_see edition (tasks.Show shows.Json) files answer people (refused_files found refused are) = (printable_lines [], printable_lines _)
 people_see edition (tasks.Show format) files answer people (shown configuration text listed is_shown) = (in_show_format_printable format text people, printable_lines [])
-people_see edition (tasks.Profile task) files answer people (faulty found errors are told) =
-    both_of answer _ told (printable_lines [], in_show_format_printable task.format _ people)
-people_see edition (tasks.Profile task) files answer people (sound passes (layers, are, without wrong is_wrong (said, told, same))) =
+people_see edition (tasks.Profile task) files answer people (faulty found errors are done) =
+    both_of answer _ done (printable_lines [], in_show_format_printable task.format _ people)
+people_see edition (tasks.Profile task) files answer people (sound passes (layers, are, without wrong is_wrong (said, done, same))) =
     both_of answer _ same (printable_lines [], printable_lines _)
-people_see edition (tasks.Profile task) files answer people (sound passes (layers, are, reported profile is_of (report, is_report, told))) =
-    (subst (λ text. IsPrintable (printed text)) (sym told.text_is) (in_show_format_printable task.format told.text people), subst (λ text. IsPrintable (printed text)) (sym told.said_is) (printable_lines _))
+people_see edition (tasks.Profile task) files answer people (sound passes (layers, are, reported profile is_of (report, is_report, done))) =
+    (subst (λ text. IsPrintable (printed text)) (sym done.text_is) (in_show_format_printable task.format done.text people), subst (λ text. IsPrintable (printed text)) (sym done.said_is) (printable_lines _))
 
 pub unread_printable : (path reason : List ℕ) → IsPrintable (line_of (unread_text path reason))
 unread_printable path reason =
@@ -78,7 +78,7 @@ front_added unsaid old new text (inr (failed, front)) = front
 pub nothing_added : (old new : Option (List ℕ)) → Keeps old new → AddsPrintable old new
 nothing_added old new kept = ([], printable_plain [] refl, whole_front old new [] (Appends-kept old old new [] (Appends-nil old) kept))
 
-module _ (holds : PathStates) (request : Request) (output : Output) (status : ExitStatus) (unwritten gone unsaid : Type 0) (old new said says : Option (List ℕ)) (people : IsTrue (is_told_to_people request.task)) where
+module _ (holds : PathStates) (request : Request) (output : Output) (status : ExitStatus) (unwritten gone unsaid : Type 0) (old new said says : Option (List ℕ)) (people : IsTrue (is_read_by_people request.task)) where
   both_seen : (files : FilesRead) (about : IsOutputAbout request files output) → IsPrintable (string_bytes output.text) × IsPrintable (string_bytes output.notices)
   both_seen files about =
       let seen = people_see request.edition request.task files about.answer people about.done in (
@@ -87,23 +87,23 @@ module _ (holds : PathStates) (request : Request) (output : Output) (status : Ex
       )
 
   pub written_writes : IsOutput holds request output → IsWritten output status old new unsaid said says ⊎ IsUnwritten output status unwritten gone old new unsaid said says → AddsPrintable old new
-  written_writes (files, read, about) (inl told) = (string_bytes output.text, (both_seen files about).0, whole_front old new (string_bytes output.text) told.written)
+  written_writes (files, read, about) (inl done) = (string_bytes output.text, (both_seen files about).0, whole_front old new (string_bytes output.text) done.written)
   written_writes (files, read, about) (inr failed) = (string_bytes output.text, (both_seen files about).0, failed.front)
 
   pub written_says : IsOutput holds request output → IsWritten output status old new unsaid said says ⊎ IsUnwritten output status unwritten gone old new unsaid said says → AddTwoPrintable said says
-  written_says (files, read, about) (inl told) = (
+  written_says (files, read, about) (inl done) = (
     says,
-    (string_bytes output.notices, (both_seen files about).1, front_added unsaid said says (string_bytes output.notices) told.noticed),
+    (string_bytes output.notices, (both_seen files about).1, front_added unsaid said says (string_bytes output.notices) done.noticed),
     nothing_added says says (Keeps-refl says),
   )
   written_says (files, read, about) (inr failed) = (
     failed.between,
     (string_bytes output.notices, (both_seen files about).1, front_added unsaid said failed.between (string_bytes output.notices) failed.noticed),
-    said_of_write failed.between failed.told,
+    said_of_write failed.between failed.reported,
   )
     where
       said_of_write : (between : Option (List ℕ)) → IsSaidOfWrite gone unsaid between says → AddsPrintable between says
-      said_of_write between (inl told) = (line_of (codes "cannot write output"), printable_plain _ refl, front_added unsaid between says _ told)
+      said_of_write between (inl done) = (line_of (codes "cannot write output"), printable_plain _ refl, front_added unsaid between says _ done)
       said_of_write between (inr (is_gone, kept)) = nothing_added between says kept
 
 -- ---- what can't be read
@@ -152,7 +152,7 @@ module _ (holds : PathStates) where
 
   pub unanswered_says : (request : Request) (unanswered : Unanswered) (unsaid : Type 0) (said says : Option (List ℕ)) → UnlessMemory (IsFirstUnread holds request) unanswered
       → AddsOrFails unsaid said says (line_of (unanswered_text unanswered)) → AddTwoPrintable said says
-  unanswered_says request (fails.Unread complaint) unsaid said says first told =
-      (says, (_, first_line request _ first, front_added unsaid said says _ told), nothing_added says says (Keeps-refl says))
-  unanswered_says request fails.Memory unsaid said says first told =
-      (says, (_, printable_plain _ refl, front_added unsaid said says _ told), nothing_added says says (Keeps-refl says))
+  unanswered_says request (fails.Unread complaint) unsaid said says first done =
+      (says, (_, first_line request _ first, front_added unsaid said says _ done), nothing_added says says (Keeps-refl says))
+  unanswered_says request fails.Memory unsaid said says first done =
+      (says, (_, printable_plain _ refl, front_added unsaid said says _ done), nothing_added says says (Keeps-refl says))

@@ -1,5 +1,5 @@
 -- What can't be read, and the walk upwards, one folder more.
-use Rattle.std.proofs.Common.{◌≡◌, ◌+◌, ◌<◌, ℕ, List, Some, arith, codes, inl, inr, string_bytes, subst, sym}
+use Rattle.std.proofs.Common.{◌≡◌, ◌+◌, ◌<◌, ℕ, List, Some, arith, codes, inl, inr, subst, sym}
 use Rattle.std.proofs.lemmas.Bool.{cases_order}
 use Rattle.nextest_config_command.specs.Files.{bytes, PathStates, unread_text, UnlessMemory}
 use Rattle.nextest_config_command.specs.Found.{ArePassed, IsPassedAt, IsUnread, IsUnreadAbove, IsUnreadOnWalk, path_above}

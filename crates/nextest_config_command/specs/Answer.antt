@@ -20,9 +20,9 @@ use Rattle.nextest_config_command.specs.Found.{all_files, FilesRead}
 use Rattle.nextest_config_command.specs.Layers.{AreLayers, AreProfileNames}
 use Rattle.nextest_config_command.specs.Lint.{failure_if, fails_by, lint_status, lint_text, summary_of}
 use Rattle.nextest_config_command.specs.Printed.{for_people, in_format, in_show_format, Text, text_of}
-use Rattle.nextest_config_command.specs.Verdict.{IsVerdictTold}
+use Rattle.nextest_config_command.specs.Verdict.{IsVerdictReported}
 use Rattle.nextest_config_command.specs.declared.answer.Answer.{Answer}
-use Rattle.nextest_config_command.specs.declared.request.Check.{Check}
+use Rattle.nextest_config_command.specs.declared.request.CheckTask.{CheckTask}
 use Rattle.nextest_config_command.specs.declared.request.LintOptions.{LintOptions}
 
 -- ---- an answer
@@ -67,8 +67,8 @@ abbrev pub status_found : Bool → FilesRead → ExitStatus → ExitStatus
 status_found strict files status = if files.is_partial then NoOutcome
     else failing_if (strict && is_said files.notices) status
 
--- how files are judged, and which of their findings are told: for a check also those for which the
--- files are refused
+-- how files are judged, and which of their findings are reported: for a check also those for which
+-- the files are refused
 abbrev pub judging : Edition → List FindingCode → Bool → Judging
 judging edition allowed tells_refusals =
     record { edition = edition; allowed = allowed; tells_refusals = tells_refusals }
@@ -77,11 +77,11 @@ judging edition allowed tells_refusals =
 abbrev pub lint_judging : Edition → LintOptions → Judging
 lint_judging edition options = judging edition options.allowed.items false
 
--- how a check judges files: as a lint does, but what the files are refused for is told in any case
+-- how a check judges files: as a lint does, but what they are refused for is reported in any case
 abbrev pub check_judging : Edition → LintOptions → Judging
 check_judging edition options = judging edition options.allowed.items true
 
--- what is found in the files, told in a format, and its status
+-- what is found in the files, reported in a format, and its status
 pub record IsLinted (edition : Edition) (options : LintOptions) (files : FilesRead)
     (answer : AnswerView) : Type 0 where
   pub found : List FileFound
@@ -109,7 +109,7 @@ status_checked strict v summary = failure_if ((strict && warns v) || fails_by st
 
 -- what is said of the current version: one constructor for each kind of answer
 pub data IsChecked (edition : Edition) (files : FilesRead)
-    (check : Check) : AnswerView → Type 0 where
+    (check : CheckTask) : AnswerView → Type 0 where
   refused_list : (found : List FileFound) → IsRefusedList edition (all_files files)
       → AreFound (check_judging edition check.lint) files found
       → IsChecked edition files check
@@ -118,14 +118,14 @@ pub data IsChecked (edition : Edition) (files : FilesRead)
       → IsListedAs edition (all_files files) configuration
       → IsSelectedFor (sources_of_files edition (all_files files)) (parts_of check.current)
       check.override_version_check v → fails v ≡ true
-      → IsVerdictTold check.lint.format (all_files files) (parts_of check.current) v
+      → IsVerdictReported check.lint.format (all_files files) (parts_of check.current) v
       configuration.experimental front
       → IsChecked edition files check (writes (in_format check.lint.format front) Failure)
   enough : (configuration : Configuration) (v : Verdict) (front : List ℕ) (found : List FileFound)
       → IsListedAs edition (all_files files) configuration
       → IsSelectedFor (sources_of_files edition (all_files files)) (parts_of check.current)
       check.override_version_check v → fails v ≡ false
-      → IsVerdictTold check.lint.format (all_files files) (parts_of check.current) v
+      → IsVerdictReported check.lint.format (all_files files) (parts_of check.current) v
       configuration.experimental front
       → AreFound (check_judging edition check.lint) files found
       → IsChecked edition files check
@@ -135,7 +135,7 @@ pub data IsChecked (edition : Edition) (files : FilesRead)
 
 -- ---- show
 
--- the answer of `show` about a list that is refused: what is found is told for people
+-- the answer of `show` about a list that is refused: what is found is reported for people
 abbrev pub shown_refusal : ShowFormat → List ℕ → AnswerView
 shown_refusal shows.Human text = writes (for_people text) Refused
 shown_refusal shows.Json text = says (for_people text) Refused
@@ -162,12 +162,12 @@ pub data IsShown (edition : Edition) (files : FilesRead) (format : ShowFormat) :
 
 -- ---- its parts
 
--- the answer where this verdict is selected, and told so
-abbrev pub IsCheckWith : Edition → FilesRead → Check → Verdict → List ℕ → Answer → Type 0
+-- the answer where this verdict is selected, and reported so
+abbrev pub IsCheckWith : Edition → FilesRead → CheckTask → Verdict → List ℕ → Answer → Type 0
 IsCheckWith edition files check v front answer = (configuration : Configuration)
     → IsListedAs edition (all_files files) configuration
     → IsSelectedFor (sources_of_files edition (all_files files)) (parts_of check.current)
     check.override_version_check v
-    → IsVerdictTold check.lint.format (all_files files) (parts_of check.current) v
+    → IsVerdictReported check.lint.format (all_files files) (parts_of check.current) v
     configuration.experimental front
     → IsChecked edition files check (answer_of answer)

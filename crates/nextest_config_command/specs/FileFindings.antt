@@ -5,7 +5,7 @@ use Rattle.std.specs.List.{AllZip, list_any}
 use Rattle.nextest_config.specs.declared.nextest_version.edition.Edition.{Edition}
 use Rattle.nextest_config.specs.declared.nextest_version.source.ConfigSourceKind.TheVariants.{DiscoveredRepository}
 use Rattle.toml_spans.specs.Step.{index, key, PathStep, step_of}
-use Rattle.nextest_config_lint.specs.Code.{code_word, told_code}
+use Rattle.nextest_config_lint.specs.Code.{code_word, reported_code}
 use Rattle.nextest_config_lint.specs.Defined.{file_of, file_with, ListFile}
 use Rattle.nextest_config_lint.specs.File.{AreLocated, IsDocument}
 use Rattle.nextest_config_lint.specs.Finding.{finding_severity}
@@ -22,7 +22,7 @@ use Rattle.nextest_config_command.specs.Files.{File}
 use Rattle.nextest_config_command.specs.Found.{all_files, FilesRead}
 use Rattle.nextest_config_command.specs.Positions.{AllZipFrom}
 use Rattle.nextest_config_command.specs.declared.file_findings.FileFindings.{FileFindings}
-use Rattle.nextest_config_command.specs.declared.file_findings.Rules.{Rules}
+use Rattle.nextest_config_command.specs.declared.file_findings.LintRules.{LintRules}
 
 -- ---- the files as a list
 
@@ -39,11 +39,11 @@ IsListed file listed = IsListFile file (file_of listed)
 abbrev pub AreListed : List File → List ListedFile → Type 0
 AreListed files listed = AllZip IsListFile files (map file_of listed)
 
--- ---- which findings are told
+-- ---- which findings are reported
 
 -- the word of the code of a kind of finding
 abbrev pub code_text : FindingKind → List ℕ
-code_text kind = code_word (told_code (kind_view kind))
+code_text kind = code_word (reported_code (kind_view kind))
 
 -- findings of this kind are left out, by their code
 abbrev pub is_allowed : List FindingCode → FindingKind → Bool
@@ -73,29 +73,29 @@ abbrev pub refuses : Finding → Bool
 refuses finding = is_error (finding_severity finding.kind)
     && is_of_source (map step_of finding.path.items)
 
--- a finding is told, unless its code is allowed; where refusals are told in any case, so is one for
--- which the list is refused
-abbrev pub is_told : List FindingCode → Bool → Finding → Bool
-is_told allowed tells_refusals finding = not (is_allowed allowed finding.kind)
+-- a finding is reported, unless its code is allowed; where refusals are reported in any case, so is
+-- one for which the list is refused
+abbrev pub is_reported : List FindingCode → Bool → Finding → Bool
+is_reported allowed tells_refusals finding = not (is_allowed allowed finding.kind)
     || (tells_refusals && refuses finding)
 
--- how files are judged, and which of their findings are told
+-- how files are judged, and which of their findings are reported
 pub record Judging : Type 0 where
   pub edition : Edition
   pub allowed : List FindingCode
   pub tells_refusals : Bool
 
 -- how rules say that files are judged, without where they lie in memory
-abbrev pub judging_of : Rules → Judging
+abbrev pub judging_of : LintRules → Judging
 judging_of rules = record {
   edition = rules.edition;
   allowed = rules.allowed.now;
   tells_refusals = rules.tells_refusals;
 }
 
--- a finding with its range is told, as files are judged
+-- a finding with its range is reported, as files are judged
 abbrev pub tells : Judging → LocatedFinding → Bool
-tells judging located = is_told judging.allowed judging.tells_refusals located.finding
+tells judging located = is_reported judging.allowed judging.tells_refusals located.finding
 
 -- ---- what is found
 
@@ -105,15 +105,7 @@ pub record FileFound : Type 0 where
   pub contents : List ℕ
   pub located : List LocatedFinding
 
--- what is found in a file, without where it lies in memory
-abbrev pub found_of : FileFindings → FileFound
-found_of findings = record {
-  path = findings.path.now;
-  contents = findings.contents.now;
-  located = findings.located.items;
-}
-
--- what is found and told of a file at this position of a list
+-- what is found and reported of a file at this position of a list
 pub record IsFoundIn (judging : Judging) (list : List ListFile) (position : ℕ) (file : File)
     (found : FileFound) : Type 0 where
   pub all : List LocatedFinding
@@ -121,6 +113,14 @@ pub record IsFoundIn (judging : Judging) (list : List ListFile) (position : ℕ)
   pub path : found.path ≡ file.place.path
   pub contents : found.contents ≡ file.contents
   pub located : found.located ≡ filter (tells judging) all
+
+-- what is found in a file, without where it lies in memory
+abbrev pub found_of : FileFindings → FileFound
+found_of findings = record {
+  path = findings.path.now;
+  contents = findings.contents.now;
+  located = findings.located.items;
+}
 
 -- a file that couldn't be read, which may define any name, if there is one
 abbrev pub unread_files : Bool → List ListFile

@@ -43,13 +43,13 @@ pub record File : Type 0 where
   pub place : SourcePlace
   pub contents : List ℕ
 
+-- a file that was read, without where it lies in memory
+abbrev pub file_of : SourceFile → File
+file_of file = record { place = place_of file.source; contents = file.contents.items }
+
 -- the file at a place, with these contents
 abbrev pub file_at : SourcePlace → List ℕ → File
 file_at place contents = record { place = place; contents = contents }
-
--- a file that was read, without where it lies in memory
-abbrev pub file_of : SourceFile → File
-file_of file = file_at (place_of file.source) file.contents.items
 
 -- the file is at this place
 abbrev pub IsThere : PathStates → SourcePlace → File → Type 0

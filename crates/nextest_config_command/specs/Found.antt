@@ -322,7 +322,7 @@ with_outcome files outcome = record {
 abbrev pub files_of : ParsedFiles → FilesRead
 files_of parsed = record {
   tools = parsed.tools.items;
-  repository = parsed.repository.items;
   notices = string_bytes parsed.notices;
+  repository = parsed.repository.items;
   is_partial = parsed.is_partial;
 }

@@ -1,4 +1,4 @@
--- Files as the layers that profiles are told by.
+-- Files as the layers of which profiles are made.
 use Rattle.std.specs.Prelude.{◌≡◌, ℕ, List, IsUtf8, Some}
 use Rattle.std.specs.List.{AllZip}
 use Rattle.toml.specs.Parse.{parse_document}

@@ -1,4 +1,4 @@
--- What is told of the findings of files.
+-- What is reported of the findings of files.
 use Rattle.std.specs.Prelude.{◌≡◌, ℕ, Bool, true, false, ◌&&◌, ◌||◌, List, [], ◌∷◌, ◌++◌, codes, count_by, flat_map, map, nat_lt, string_bytes, if◌then◌else◌}
 use Rattle.std.specs.Str.Lines.{lines}
 use Rattle.std.specs.Str.Lossy.{utf8_lossy}
@@ -77,7 +77,7 @@ failure_if is_failing = if is_failing then Failure else Success
 abbrev pub lint_status : Bool → Summary → ExitStatus
 lint_status strict summary = failure_if (fails_by strict summary)
 
--- ---- how they are told
+-- ---- how they are reported
 
 -- a finding of the file at a path, by the texts that are printed of it
 abbrev pub diagnostic_of : List ℕ → LocatedFinding → DiagnosticView
@@ -96,21 +96,21 @@ AreTextsOf finding texts = (string_bytes texts.key ≡ printed_path (map step_of
     × (string_bytes texts.message ≡ finding_kind_text finding.kind)
 
 -- the lines of a file that a format shows: U+FFFD stands for what isn't UTF-8
-abbrev pub shown_text : Format → List ℕ → List ℕ
-shown_text Human contents = []
-shown_text Full contents = utf8_lossy contents
-shown_text Github contents = []
-shown_text Json contents = []
+abbrev pub contents_shown : Format → List ℕ → List ℕ
+contents_shown Human contents = []
+contents_shown Full contents = utf8_lossy contents
+contents_shown Github contents = []
+contents_shown Json contents = []
 
--- what is told of findings of the file at a path, which has these lines
+-- what is reported of findings of the file at a path, which has these lines
 abbrev pub located_text : Format → List ℕ → List (List ℕ) → List LocatedFinding → List ℕ
 located_text format path shown located =
     flat_map (λ one. diagnostic_text format (diagnostic_of path one) shown) located
 
--- what is told of the findings of a file, with its lines where the format shows them
+-- what is reported of the findings of a file, with its lines where the format shows them
 abbrev pub file_text : Format → FileFound → List ℕ
 file_text format found =
-    located_text format found.path (lines (shown_text format found.contents)) found.located
+    located_text format found.path (lines (contents_shown format found.contents)) found.located
 
 -- the line of how many findings there are, where there are any and the format has one
 abbrev pub summary_line : Format → Summary → List ℕ
@@ -120,13 +120,13 @@ summary_line Full summary =
 summary_line Github summary = []
 summary_line Json summary = []
 
--- what is told of the findings of files, and then how many there are
+-- what is reported of the findings of files, and then how many there are
 abbrev pub lint_text : Format → List FileFound → List ℕ
 lint_text format found = flat_map (file_text format) found ++ summary_line format (summary_of found)
 
 -- ---- what is made of it
 
--- what is found in the files is told in a format
+-- what is found in the files is reported in a format
 pub record IsLint (judging : Judging) (format : Format) (files : FilesRead) (lint : Lint) : Type 0
   where
     pub found : List FileFound

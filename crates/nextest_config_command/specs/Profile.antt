@@ -69,8 +69,8 @@ front_text (Some place) = escaped_text InLine (string_bytes place.file.now.sourc
 front_text None = []
 
 -- this is said, behind the place where it stands what a profile inherits from
-abbrev pub IsToldAt : List Layer → List ℕ → (Option InheritsPlace → List ℕ) → List ℕ → Type 0
-IsToldAt layers profile text said = (place : Option InheritsPlace)
+abbrev pub IsReportedAt : List Layer → List ℕ → (Option InheritsPlace → List ℕ) → List ℕ → Type 0
+IsReportedAt layers profile text said = (place : Option InheritsPlace)
     × IsInheritsPlace layers profile place × (said ≡ front_text place ++ text place)
 
 -- the name is rather a path: it has a slash, or is a folder's own
@@ -88,22 +88,22 @@ no_profile_text name names = codes "no profile " ++ (quoted_text name
     ++ (codes ", there are " ++ (names_text names ++ path_hint name)))
 
 -- it is said that there is no profile of this name, and which there are
-abbrev pub IsNoProfileTold : List Layer → List ℕ → List ℕ → Type 0
-IsNoProfileTold layers name said = (names : List (List ℕ)) × AreProfileNames layers names
+abbrev pub IsNoProfileReported : List Layer → List ℕ → List ℕ → Type 0
+IsNoProfileReported layers name said = (names : List (List ℕ)) × AreProfileNames layers names
     × (said ≡ no_profile_text name names)
 
 -- what is said of what is wrong with the chain of a profile
-abbrev pub IsWrongTold : List Layer → List ℕ → Wrong → List ℕ → Type 0
-IsWrongTold layers name no_profile said = IsNoProfileTold layers name said
-IsWrongTold layers name (ring profile) said =
-    IsToldAt layers profile (λ place. ring_text profile) said
-IsWrongTold layers name (not_defined profile parent) said =
-    IsToldAt layers profile (λ place. undefined_text parent) said
-IsWrongTold layers name (not_text profile) said = IsToldAt layers profile no_text said
+abbrev pub IsWrongReported : List Layer → List ℕ → Wrong → List ℕ → Type 0
+IsWrongReported layers name no_profile said = IsNoProfileReported layers name said
+IsWrongReported layers name (ring profile) said =
+    IsReportedAt layers profile (λ place. ring_text profile) said
+IsWrongReported layers name (not_defined profile parent) said =
+    IsReportedAt layers profile (λ place. undefined_text parent) said
+IsWrongReported layers name (not_text profile) said = IsReportedAt layers profile no_text said
 
 -- the answer says what is wrong with the chain of a profile, on a line of its own
 abbrev pub IsRefusedFor : List Layer → List ℕ → Wrong → AnswerView → Type 0
-IsRefusedFor layers name wrong answer = (said : List ℕ) × IsWrongTold layers name wrong said
+IsRefusedFor layers name wrong answer = (said : List ℕ) × IsWrongReported layers name wrong said
     × (answer ≡ says (for_people (said ++ codes "\n")) Refused)
 
 -- ---- a profile with its settings
@@ -116,17 +116,17 @@ pub record IsProfileOf (layers : List Layer) (name : List ℕ) (profile : Effect
     pub chain_is : IsChain (all_layers layers) name (chain_in profile)
 
 -- how the command ends that tells a profile: any fault that it tells, of others too, fails it
-abbrev pub status_told : ProfileReport → ExitStatus
-status_told report = failure_if (has_fault report)
+abbrev pub status_reported : ProfileReport → ExitStatus
+status_reported report = failure_if (has_fault report)
 
--- what is told of a profile is written, and what is wrong with others is said
-pub record IsReportTold (format : ShowFormat) (report : ProfileReport)
+-- what is reported of a profile is written, and what is wrong with others is said
+pub record IsReportWritten (format : ShowFormat) (report : ProfileReport)
     (answer : AnswerView) : Type 0 where
   pub text : List ℕ
   pub is_text : IsProfileText format report text
   pub text_is : answer.text ≡ in_show_format format text
   pub said_is : answer.said ≡ for_people (other_profiles_text report)
-  pub status_is : answer.status ≡ status_told report
+  pub status_is : answer.status ≡ status_reported report
 
 -- the report is what another one says of wanted paths: its chain, and what is wrong in other
 -- profiles, stay
@@ -142,15 +142,15 @@ abbrev pub IsNarrowedIf : List Path → ProfileReport → ProfileReport → Type
 IsNarrowedIf [] whole report = report ≡ whole
 IsNarrowedIf (first ∷ rest) whole report = IsNarrowed (first ∷ rest) whole report
 
--- what is told of a profile, as the task asks for it
+-- what is reported of a profile, as the task asks for it
 abbrev pub IsWantedReport : EffectiveProfile → ProfileTask → ProfileReport → Type 0
 IsWantedReport profile task report = (whole : ProfileReport) × IsReport profile task.all whole
     × IsNarrowedIf (map path_of task.keys.items) whole report
 
--- the answer is what is told of the profile that is asked for
+-- the answer is what is reported of the profile that is asked for
 abbrev pub IsReported : EffectiveProfile → ProfileTask → AnswerView → Type 0
 IsReported profile task answer = (report : ProfileReport) × IsWantedReport profile task report
-    × IsReportTold task.format report answer
+    × IsReportWritten task.format report answer
 
 -- ---- the answer
 

@@ -73,12 +73,12 @@ abbrev pub is_for_people : Text → Bool
 is_for_people (for_people text) = true
 is_for_people (as_json text) = false
 
--- the task is told to people, and not as JSON
-abbrev pub is_told_to_people : Task → Bool
-is_told_to_people (tasks.Check check) = is_for_people (in_format check.lint.format [])
-is_told_to_people (tasks.Lint options) = is_for_people (in_format options.format [])
-is_told_to_people (tasks.Show format) = is_for_people (in_show_format format [])
-is_told_to_people (tasks.Profile task) = is_for_people (in_show_format task.format [])
+-- the task is reported to people, and not as JSON
+abbrev pub is_read_by_people : Task → Bool
+is_read_by_people (tasks.Check check) = is_for_people (in_format check.lint.format [])
+is_read_by_people (tasks.Lint options) = is_for_people (in_format options.format [])
+is_read_by_people (tasks.Show format) = is_for_people (in_show_format format [])
+is_read_by_people (tasks.Profile task) = is_for_people (in_show_format task.format [])
 
 -- known bytes stay, and a printable text, or a front of it, comes after them
 abbrev pub AddsPrintable : Option (List ℕ) → Option (List ℕ) → Type 0
@@ -99,7 +99,8 @@ pub record IsOutputAbout (request : Request) (files : FilesRead) (output : Outpu
   pub text : string_bytes output.text ≡ printed answer.text
   pub status : output.status ≡ answer.status
 
--- the output is the answer about the files that are read for the request, and what is said before it
+-- the output is the answer about the files that are read for the request, and what is said before
+-- it
 abbrev pub IsOutput : PathStates → Request → Output → Type 0
 IsOutput holds request output = (files : FilesRead) × IsReadFor holds request files
     × IsOutputAbout request files output
@@ -119,4 +120,4 @@ pub record IsUnwritten (output : Output) (status : ExitStatus) (unwritten gone :
   pub front : AddsFront old new (string_bytes output.text)
   pub between : Option (List ℕ)
   pub noticed : AddsOrFails unsaid said between (string_bytes output.notices)
-  pub told : IsSaidOfWrite gone unsaid between says
+  pub reported : IsSaidOfWrite gone unsaid between says

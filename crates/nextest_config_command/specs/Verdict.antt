@@ -63,21 +63,22 @@ shortfall_diagnostic role s asked = record {
 }
 
 -- the text tells a shortfall as a finding, at the place where a file asks the version
-abbrev pub IsShortfallTold : Format → List File → VersionRole → Shortfall → List ℕ → Type 0
-IsShortfallTold format files role s text = (asked : AskedView) × IsAskedIn files role s.place asked
+abbrev pub IsShortfallReported : Format → List File → VersionRole → Shortfall → List ℕ → Type 0
+IsShortfallReported format files role s text =
+    (asked : AskedView) × IsAskedIn files role s.place asked
     × (text ≡ diagnostic_text format (shortfall_diagnostic role s asked) [])
 
 -- the verdict as a finding; one that is satisfied is none
 abbrev pub IsVerdictFinding : Format → List File → Verdict → List ℕ → Type 0
 IsVerdictFinding format files satisfied text = text ≡ []
-IsVerdictFinding format files (warn s) text = IsShortfallTold format files Recommended s text
-IsVerdictFinding format files (error s) text = IsShortfallTold format files Required s text
+IsVerdictFinding format files (warn s) text = IsShortfallReported format files Recommended s text
+IsVerdictFinding format files (error s) text = IsShortfallReported format files Required s text
 
 -- the verdict with the features as lines for people, or as a finding alone
-abbrev pub IsVerdictTold : Format → List File → Parts → Verdict → Experimental → List ℕ → Type 0
-IsVerdictTold Human files current v experimental text =
+abbrev pub IsVerdictReported : Format → List File → Parts → Verdict → Experimental → List ℕ → Type 0
+IsVerdictReported Human files current v experimental text =
     text ≡ read_text InLine current v experimental
-IsVerdictTold Full files current v experimental text =
+IsVerdictReported Full files current v experimental text =
     text ≡ read_text InLine current v experimental
-IsVerdictTold Github files current v experimental text = IsVerdictFinding Github files v text
-IsVerdictTold Json files current v experimental text = IsVerdictFinding Json files v text
+IsVerdictReported Github files current v experimental text = IsVerdictFinding Github files v text
+IsVerdictReported Json files current v experimental text = IsVerdictFinding Json files v text

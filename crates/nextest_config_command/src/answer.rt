@@ -9,14 +9,14 @@ ghost use Rattle.nextest_config_command.specs.Found.{all_files, files_of};
 ghost use Rattle.nextest_config_command.specs.Lint.{IsLint};
 ghost use Rattle.nextest_config_command.specs.Printed.{text_of};
 
-use crate::file_findings::Rules;
+use crate::file_findings::LintRules;
 use crate::file_list::configuration_of_files;
 use crate::layers::{indexed_files, layers};
 use crate::lint::Lint;
 use crate::parsed_file::ParsedFiles;
 use crate::printed::Printed;
 use crate::profile::profile;
-use crate::request::{Check, LintOptions, Task};
+use crate::request::{CheckTask, LintOptions, Task};
 use crate::verdict::verdict_text;
 use nextest_config::nextest_version::{Edition, NextestVersionEval, VersionOnlyConfig};
 use nextest_config_output::findings::Format;
@@ -32,23 +32,6 @@ pub(crate) struct Answer {
     pub text: Printed,
     pub said: Printed,
     pub status: ExitStatus,
-}
-
-/// The answer to the task about these files, read under the edition.
-pub(crate) fn answer_to(
-    alloc: Global,
-    edition: Edition,
-    task: &Task,
-    files: &ParsedFiles<'_>,
-) -> Result<Answer, AllocError>
-    ensures { IfOk result (IsAnswer edition task.now (files_of files.now)) }
-{
-    match task {
-        Task::Check(task) => check(alloc, edition, task, files),
-        Task::Lint(options) => lint(alloc, edition, options, files),
-        Task::Profile(task) => profile(alloc, edition, task, files),
-        Task::Show(format) => show(alloc, edition, *format, files),
-    }
 }
 
 impl Answer {
@@ -69,107 +52,151 @@ impl Answer {
     }
 }
 
-// What is found in the files.
-fn lint(
-    alloc: Global,
-    edition: Edition,
-    options: &LintOptions,
-    files: &ParsedFiles<'_>,
-) -> Result<Answer, AllocError>
-    ensures { IfOk result (λ answer.
-        IsLinted edition options.now (files_of files.now) (answer_of answer)) }
-{
-    let rules = Rules {
-        edition,
-        allowed: options.allowed.as_slice(),
-        tells_refusals: false,
-    };
-    let lint = Lint::of(alloc, rules, options.format, files)?;
-    let status = status_found(options.strict, files, lint.status(options.strict));
-    let text = Printed::in_format(options.format, lint.text);
-    Ok(Answer::writes(alloc, text, status))
+/// What does a task: with these files, read under the edition.
+#[derive(Clone, Copy)]
+pub(crate) struct Engine<'a> {
+    pub alloc: Global,
+    pub edition: Edition,
+    pub files: &'a ParsedFiles<'a>,
 }
 
-// The current version, checked against what the files ask.
-fn check(
-    alloc: Global,
-    edition: Edition,
-    check: &Check,
-    files: &ParsedFiles<'_>,
-) -> Result<Answer, AllocError>
-    ensures { IfOk result (λ answer.
-        IsChecked edition (files_of files.now) check.now (answer_of answer)) }
-{
-    match configuration_of_files(alloc, edition, files)? {
-        Some(config) => check_listed(alloc, edition, check, files, &config),
-        None => {
-            let lint = check_lint(alloc, edition, &check.lint, files)?;
-            let text = Printed::in_format(check.lint.format, lint.text);
-            Ok(Answer::writes(alloc, text, ExitStatus::Refused))
+impl Engine<'_> {
+    /// The answer to the task.
+    pub fn answer_to(&self, task: &Task) -> Result<Answer, AllocError>
+        ensures { IfOk result (IsAnswer self.now.edition task.now (files_of self.now.files.now)) }
+    {
+        match task {
+            Task::Check(task) => self.check(task),
+            Task::Lint(options) => self.lint(options),
+            Task::Profile(task) => profile(self.alloc, self.edition, task, self.files),
+            Task::Show(format) => self.show(*format),
         }
     }
-}
 
-// What is told of files that are checked.
-fn check_lint(
-    alloc: Global,
-    edition: Edition,
-    options: &LintOptions,
-    files: &ParsedFiles<'_>,
-) -> Result<Lint, AllocError>
-    ensures { IfOk result (IsLint (check_judging edition options.now) options.now.format
-        (files_of files.now)) }
-{
-    let rules = Rules {
-        edition,
-        allowed: options.allowed.as_slice(),
-        tells_refusals: true,
-    };
-    let lint = Lint::of(alloc, rules, options.format, files)?;
-    Ok(lint)
-}
-
-// The current version, checked against the configuration that stands for the files.
-fn check_listed(
-    alloc: Global,
-    edition: Edition,
-    check: &Check,
-    files: &ParsedFiles<'_>,
-    config: &VersionOnlyConfig,
-) -> Result<Answer, AllocError>
-    requires { IsListedAs edition (all_files (files_of files.now)) (configuration_of config.now) }
-    ensures { IfOk result (λ answer.
-        IsChecked edition (files_of files.now) check.now (answer_of answer)) }
-{
-    let kept = config.nextest_version();
-    let eval = kept.eval(alloc, &check.current, check.override_version_check)?;
-    let front = verdict_text(alloc, check, files, &eval, config.experimental())?;
-    check_with(alloc, edition, check, files, &eval, front)
-}
-
-// The verdict, and what is found in the files, unless the verdict is an error.
-fn check_with(
-    alloc: Global,
-    edition: Edition,
-    check: &Check,
-    files: &ParsedFiles<'_>,
-    eval: &NextestVersionEval,
-    front: String,
-) -> Result<Answer, AllocError>
-    ensures { IfOk result (IsCheckWith edition (files_of files.now) check.now (verdict_of eval.now)
-        (string_bytes front)) }
-{
-    let format = check.lint.format;
-    if fails(eval) {
-        let text = Printed::in_format(format, front);
-        return Ok(Answer::writes(alloc, text, ExitStatus::Failure));
+    // What is found in the files.
+    fn lint(&self, options: &LintOptions) -> Result<Answer, AllocError>
+        ensures { IfOk result (λ answer. IsLinted self.now.edition options.now
+            (files_of self.now.files.now) (answer_of answer)) }
+    {
+        let rules = LintRules {
+            edition: self.edition,
+            allowed: options.allowed.as_slice(),
+            tells_refusals: false,
+        };
+        let lint = Lint::of(self.alloc, rules, options.format, self.files)?;
+        let status = status_found(options.strict, self.files, lint.status(options.strict));
+        let text = Printed::in_format(options.format, lint.text);
+        Ok(Answer::writes(self.alloc, text, status))
     }
-    let lint = check_lint(alloc, edition, &check.lint, files)?;
-    let mut text = front;
-    text.push_str(lint.text.as_str())?;
-    let strict = check.lint.strict;
-    let status = status_found(strict, files, status_checked(strict, eval, &lint));
-    Ok(Answer::writes(alloc, Printed::in_format(format, text), status))
+
+    // The current version, checked against what the files ask.
+    fn check(&self, check: &CheckTask) -> Result<Answer, AllocError>
+        ensures { IfOk result (λ answer. IsChecked self.now.edition
+            (files_of self.now.files.now) check.now (answer_of answer)) }
+    {
+        match configuration_of_files(self.alloc, self.edition, self.files)? {
+            Some(config) => self.check_listed(check, &config),
+            None => {
+                let lint = self.check_lint(&check.lint)?;
+                let text = Printed::in_format(check.lint.format, lint.text);
+                Ok(Answer::writes(self.alloc, text, ExitStatus::Refused))
+            }
+        }
+    }
+
+    // What is reported of files that are checked.
+    fn check_lint(&self, options: &LintOptions) -> Result<Lint, AllocError>
+        ensures { IfOk result (IsLint (check_judging self.now.edition options.now)
+            options.now.format (files_of self.now.files.now)) }
+    {
+        let rules = LintRules {
+            edition: self.edition,
+            allowed: options.allowed.as_slice(),
+            tells_refusals: true,
+        };
+        let lint = Lint::of(self.alloc, rules, options.format, self.files)?;
+        Ok(lint)
+    }
+
+    // The current version, checked against the configuration that stands for the files.
+    fn check_listed(
+        &self,
+        check: &CheckTask,
+        config: &VersionOnlyConfig,
+    ) -> Result<Answer, AllocError>
+        requires { IsListedAs self.now.edition (all_files (files_of self.now.files.now))
+            (configuration_of config.now) }
+        ensures { IfOk result (λ answer. IsChecked self.now.edition
+            (files_of self.now.files.now) check.now (answer_of answer)) }
+    {
+        let kept = config.nextest_version();
+        let eval = kept.eval(self.alloc, &check.current, check.override_version_check)?;
+        let front = verdict_text(self.alloc, check, self.files, &eval, config.experimental())?;
+        self.check_with(check, &eval, front)
+    }
+
+    // The verdict, and what is found in the files, unless the verdict is an error.
+    fn check_with(
+        &self,
+        check: &CheckTask,
+        eval: &NextestVersionEval,
+        front: String,
+    ) -> Result<Answer, AllocError>
+        ensures { IfOk result (IsCheckWith self.now.edition (files_of self.now.files.now) check.now
+            (verdict_of eval.now) (string_bytes front)) }
+    {
+        let format = check.lint.format;
+        if fails(eval) {
+            let text = Printed::in_format(format, front);
+            return Ok(Answer::writes(self.alloc, text, ExitStatus::Failure));
+        }
+        let lint = self.check_lint(&check.lint)?;
+        let mut text = front;
+        text.push_str(lint.text.as_str())?;
+        let strict = check.lint.strict;
+        let status = status_found(strict, self.files, status_checked(strict, eval, &lint));
+        Ok(Answer::writes(self.alloc, Printed::in_format(format, text), status))
+    }
+
+    // What the files ask.
+    fn show(&self, format: ShowFormat) -> Result<Answer, AllocError>
+        ensures { IfOk result (λ answer. IsShown self.now.edition
+            (files_of self.now.files.now) format (answer_of answer)) }
+    {
+        match configuration_of_files(self.alloc, self.edition, self.files)? {
+            Some(config) => {
+                let text = self.shown_text(format, &config)?;
+                let text = Printed::in_show_format(format, text);
+                Ok(Answer::writes(self.alloc, text, ExitStatus::Success))
+            }
+            None => {
+                let rules = LintRules {
+                    edition: self.edition,
+                    allowed: &[],
+                    tells_refusals: true,
+                };
+                let lint = Lint::of(self.alloc, rules, Format::Human, self.files)?;
+                Ok(show_refusal(self.alloc, format, lint.text))
+            }
+        }
+    }
+
+    // What is shown of files, each of which is a document, and for which this configuration stands.
+    fn shown_text(
+        &self,
+        format: ShowFormat,
+        config: &VersionOnlyConfig,
+    ) -> Result<String, AllocError>
+        requires { AreDocuments (all_files (files_of self.now.files.now)) }
+        ensures { IfOk result (λ text. IsTextShown format (all_files (files_of self.now.files.now))
+            (configuration_of config.now) (string_bytes text)) }
+    {
+        let indexed = indexed_files(self.alloc, self.files)?;
+        let layers = layers(self.alloc, indexed.as_slice())?;
+        let profiles = profile_names(self.alloc, layers.as_slice())?;
+        let text = show_text(self.alloc, format, config, profiles.as_slice())?;
+        Ok(text)
+    }
 }
 
 // The status of what is found in files: there is none where one can't be read, and a strict check
@@ -210,53 +237,8 @@ fn warns(eval: &NextestVersionEval) -> bool
     matches!(eval, NextestVersionEval::Warn { .. })
 }
 
-// What the files ask.
-fn show(
-    alloc: Global,
-    edition: Edition,
-    format: ShowFormat,
-    files: &ParsedFiles<'_>,
-) -> Result<Answer, AllocError>
-    ensures { IfOk result (λ answer.
-        IsShown edition (files_of files.now) format (answer_of answer)) }
-{
-    match configuration_of_files(alloc, edition, files)? {
-        Some(config) => {
-            let text = shown_text(alloc, format, files, &config)?;
-            let text = Printed::in_show_format(format, text);
-            Ok(Answer::writes(alloc, text, ExitStatus::Success))
-        }
-        None => {
-            let rules = Rules {
-                edition,
-                allowed: &[],
-                tells_refusals: true,
-            };
-            let lint = Lint::of(alloc, rules, Format::Human, files)?;
-            Ok(show_refusal(alloc, format, lint.text))
-        }
-    }
-}
-
-// What is shown of files, each of which is a document, and for which this configuration stands.
-fn shown_text(
-    alloc: Global,
-    format: ShowFormat,
-    files: &ParsedFiles<'_>,
-    config: &VersionOnlyConfig,
-) -> Result<String, AllocError>
-    requires { AreDocuments (all_files (files_of files.now)) }
-    ensures { IfOk result (λ text. IsTextShown format (all_files (files_of files.now))
-        (configuration_of config.now) (string_bytes text)) }
-{
-    let indexed = indexed_files(alloc, files)?;
-    let layers = layers(alloc, indexed.as_slice())?;
-    let profiles = profile_names(alloc, layers.as_slice())?;
-    let text = show_text(alloc, format, config, profiles.as_slice())?;
-    Ok(text)
-}
-
-// What is told of the files of a list that is refused: on the second stream, where JSON is wanted.
+// What is reported of the files of a list that is refused: on the second stream, where JSON is
+// wanted.
 fn show_refusal(alloc: Global, format: ShowFormat, text: String) -> Answer
     ensures { answer_of result ≡ shown_refusal format (string_bytes text) }
 {

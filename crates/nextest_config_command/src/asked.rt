@@ -10,7 +10,7 @@ ghost use Rattle.nextest_config_command.specs.Asked.{asked_of, AsksAt, has_versi
 ghost use Rattle.nextest_config_command.specs.Found.{all_files, files_of};
 
 use crate::parsed_file::{ParsedFile, ParsedFiles};
-use nextest_config::nextest_version::{ConfigSource, UnmetVersion, VersionRole};
+use nextest_config::nextest_version::{ConfigSource, VersionRole};
 use nextest_config_lint::value_or_key;
 use nextest_config_values::read::value_at;
 use std::alloc::{AllocError, Global};
@@ -30,19 +30,19 @@ pub(crate) struct Asked {
     pub span: Span,
 }
 
-/// Where the version that a verdict names is asked: by a file of its source, at the key of its role
-/// or at `nextest-version` itself. Of several such files it is the last one.
+/// Where the version is asked that a verdict names with this role and source: by a file of the
+/// source, at the key of the role or at `nextest-version` itself. Of several such files it is the
+/// last one.
 pub(crate) fn asked_version(
     alloc: Global,
     files: &ParsedFiles<'_>,
-    unmet: &UnmetVersion<'_>,
+    role: VersionRole,
+    source: &ConfigSource,
 ) -> Result<Asked, AllocError>
-    requires { SomeAsks (all_files (files_of files.now)) unmet.now.role
-        (place_of unmet.now.source.now) }
-    ensures { IfOk result (λ asked. IsAskedIn (all_files (files_of files.now)) unmet.now.role
-        (place_of unmet.now.source.now) (asked_of asked)) }
+    requires { SomeAsks (all_files (files_of files.now)) role (place_of source.now) }
+    ensures { IfOk result (λ asked. IsAskedIn (all_files (files_of files.now)) role
+        (place_of source.now) (asked_of asked)) }
 {
-    let (role, source) = (unmet.role, unmet.source);
     if let Some(asked) = asked_in(alloc, files.repository.as_slice(), role, source)? {
         return Ok(asked);
     }

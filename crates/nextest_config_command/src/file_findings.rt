@@ -5,7 +5,7 @@ ghost use Rattle.std.specs.List.{AllZip};
 ghost use Rattle.nextest_config.specs.declared.nextest_version.source.ConfigSourceKind.TheVariants.{DiscoveredRepository};
 ghost use Rattle.nextest_config_lint.specs.Defined.{file_of, IsDefinedBy, ListFile};
 ghost use Rattle.toml_spans.specs.Step.{step_of};
-ghost use Rattle.nextest_config_command.specs.FileFindings.{AreFound, AreFoundInTools, found_of, is_allowed, judging_of, is_of_source, is_source_key, is_told, IsFoundAfter, IsFoundIn, refuses, tells, unread_files};
+ghost use Rattle.nextest_config_command.specs.FileFindings.{AreFound, AreFoundInTools, found_of, is_allowed, judging_of, is_of_source, is_source_key, is_reported, IsFoundAfter, IsFoundIn, refuses, tells, unread_files};
 ghost use Rattle.nextest_config_command.specs.Found.{files_of};
 ghost use Rattle.nextest_config_command.specs.Positions.{AllZipFrom};
 
@@ -17,17 +17,17 @@ use nextest_config_lint::{
 use nextest_config_values::read::Word;
 use std::alloc::{AllocError, Global};
 
-/// How files are judged, and which of their findings are told.
+/// How files are judged, and which of their findings are reported.
 #[derive(Clone, Copy)]
-pub(crate) struct Rules<'a> {
+pub(crate) struct LintRules<'a> {
     pub edition: Edition,
     /// The codes of findings that are left out.
     pub allowed: &'a [FindingCode],
-    /// Whether a finding for which the list is refused is told in any case.
+    /// Whether a finding for which the list is refused is reported in any case.
     pub tells_refusals: bool,
 }
 
-/// What is found and told of a file.
+/// What is found and reported of a file.
 #[derive(Drop)]
 pub(crate) struct FileFindings<'f> {
     /// The path of the file, as it prints.
@@ -36,48 +36,78 @@ pub(crate) struct FileFindings<'f> {
     pub located: Vec<LocatedFinding>,
 }
 
-/// What is found in the files: in those of tools, in the list of all; and in each of the
-/// repository's, in a list with those of tools.
-pub(crate) fn findings_in<'f>(
-    alloc: Global,
-    rules: Rules<'_>,
-    files: &'f ParsedFiles<'_>,
-) -> Result<Vec<FileFindings<'f>>, AllocError>
-    ensures { IfOk result (λ found.
-        AreFound (judging_of rules.entry) (files_of files.now) (map found_of found.items)) }
-{
-    let mut found = in_tools(alloc, rules, files)?;
-    let mut rest = in_repository(alloc, rules, files)?;
-    found.append(&mut rest)?;
-    Ok(found)
+/// Files, and how they are judged.
+#[derive(Clone, Copy)]
+pub(crate) struct Judged<'f> {
+    pub alloc: Global,
+    pub rules: LintRules<'f>,
+    pub files: &'f ParsedFiles<'f>,
 }
 
-// What is found in the files of tools.
-fn in_tools<'f>(
-    alloc: Global,
-    rules: Rules<'_>,
-    files: &'f ParsedFiles<'_>,
-) -> Result<Vec<FileFindings<'f>>, AllocError>
-    ensures { IfOk result (λ found.
-        AreFoundInTools (judging_of rules.entry) (files_of files.now) (map found_of found.items)) }
-{
-    if files.tools.is_empty() {
-        // Then it doesn't matter what the list defines.
-        return Ok(Vec::new(alloc));
+impl<'f> Judged<'f> {
+    /// What is found in the files: in those of tools, in the list of all; and in each of the
+    /// repository's, in a list with those of tools.
+    pub fn findings(&self) -> Result<Vec<FileFindings<'f>>, AllocError>
+        ensures { IfOk result (λ found. AreFound (judging_of self.now.rules)
+            (files_of self.now.files.now) (map found_of found.items)) }
+    {
+        let mut found = self.in_tools()?;
+        let mut rest = self.in_repository()?;
+        found.append(&mut rest)?;
+        Ok(found)
     }
-    let unread = ConfigSourceKind::DiscoveredRepository;
-    let mut list = list_files(alloc, files.tools.as_slice())?;
-    let mut rest = list_files(alloc, files.repository.as_slice())?;
-    list.append(&mut rest)?;
-    push_unread(&mut list, files.is_partial, &unread)?;
-    let defined = Defined::of(alloc, list.as_slice())?;
-    in_list(alloc, rules, &defined, files.tools.as_slice())
+
+    // What is found in the files of tools.
+    fn in_tools(&self) -> Result<Vec<FileFindings<'f>>, AllocError>
+        ensures { IfOk result (λ found. AreFoundInTools (judging_of self.now.rules)
+            (files_of self.now.files.now) (map found_of found.items)) }
+    {
+        if self.files.tools.is_empty() {
+            // Then it doesn't matter what the list defines.
+            return Ok(Vec::new(self.alloc));
+        }
+        let unread = ConfigSourceKind::DiscoveredRepository;
+        let mut list = list_files(self.alloc, self.files.tools.as_slice())?;
+        let mut rest = list_files(self.alloc, self.files.repository.as_slice())?;
+        list.append(&mut rest)?;
+        push_unread(&mut list, self.files.is_partial, &unread)?;
+        let defined = Defined::of(self.alloc, list.as_slice())?;
+        let tools = self.files.tools.as_slice();
+        in_list(self.alloc, self.rules, &defined, tools)
+    }
+
+    // What is found in each of the repository's files, in a list with those of tools.
+    fn in_repository(&self) -> Result<Vec<FileFindings<'f>>, AllocError>
+        ensures { IfOk result (λ found. AllZip
+            (IsFoundAfter (judging_of self.now.rules) (files_of self.now.files.now))
+            (files_of self.now.files.now).repository (map found_of found.items)) }
+    {
+        let mut found = Vec::new(self.alloc);
+        for file in &self.files.repository {
+            found.push(self.after_tools(file)?)?;
+        }
+        Ok(found)
+    }
+
+    // What is found in a file, in a list with those of tools.
+    fn after_tools(&self, file: &'f ParsedFile<'f>) -> Result<FileFindings<'f>, AllocError>
+        ensures { IfOk result (λ found. IsFoundAfter (judging_of self.now.rules)
+            (files_of self.now.files.now) file.now (found_of found)) }
+    {
+        let unread = ConfigSourceKind::DiscoveredRepository;
+        let tools = self.files.tools.as_slice();
+        let mut list = list_files(self.alloc, tools)?;
+        list.push(file.listed())?;
+        push_unread(&mut list, self.files.is_partial, &unread)?;
+        let defined = Defined::of(self.alloc, list.as_slice())?;
+        in_file(self.alloc, self.rules, &defined, tools.len(), file)
+    }
 }
 
 // What is found in the first files of a list that defines this.
 fn in_list<'f>(
     alloc: Global,
-    rules: Rules<'_>,
+    rules: LintRules<'_>,
     defined: &Defined,
     files: &'f [ParsedFile<'_>],
 ) -> Result<Vec<FileFindings<'f>>, AllocError>
@@ -91,42 +121,6 @@ fn in_list<'f>(
         found.push(in_file(alloc, rules, defined, position, file)?)?;
     }
     Ok(found)
-}
-
-// What is found in each of the repository's files, in a list with those of tools.
-fn in_repository<'f>(
-    alloc: Global,
-    rules: Rules<'_>,
-    files: &'f ParsedFiles<'_>,
-) -> Result<Vec<FileFindings<'f>>, AllocError>
-    ensures { IfOk result (λ found. AllZip
-        (IsFoundAfter (judging_of rules.entry) (files_of files.now))
-        (files_of files.now).repository (map found_of found.items)) }
-{
-    let mut found = Vec::new(alloc);
-    for file in &files.repository {
-        found.push(after_tools(alloc, rules, files, file)?)?;
-    }
-    Ok(found)
-}
-
-// What is found in a file, in a list with those of tools.
-fn after_tools<'f>(
-    alloc: Global,
-    rules: Rules<'_>,
-    files: &'f ParsedFiles<'_>,
-    file: &'f ParsedFile<'_>,
-) -> Result<FileFindings<'f>, AllocError>
-    ensures { IfOk result (λ found.
-        IsFoundAfter (judging_of rules.entry) (files_of files.now) file.now (found_of found)) }
-{
-    let unread = ConfigSourceKind::DiscoveredRepository;
-    let tools = files.tools.as_slice();
-    let mut list = list_files(alloc, tools)?;
-    list.push(file.listed())?;
-    push_unread(&mut list, files.is_partial, &unread)?;
-    let defined = Defined::of(alloc, list.as_slice())?;
-    in_file(alloc, rules, &defined, tools.len(), file)
 }
 
 // Pushes a repository's file that couldn't be read, if there is one: none that is known to be a
@@ -152,7 +146,7 @@ fn push_unread<'f>(
 // What is found in the file at this position of a list that defines this.
 fn in_file<'f>(
     alloc: Global,
-    rules: Rules<'_>,
+    rules: LintRules<'_>,
     defined: &Defined,
     position: usize,
     file: &'f ParsedFile<'_>,
@@ -162,7 +156,7 @@ fn in_file<'f>(
         → IsFoundIn (judging_of rules.entry) list position file.now (found_of found)) }
 {
     let all = file.located(alloc, rules.edition, defined, position)?;
-    let located = rules.told(alloc, all)?;
+    let located = rules.reported(alloc, all)?;
     Ok(FileFindings {
         path: file.path(),
         contents: file.contents(),
@@ -170,31 +164,31 @@ fn in_file<'f>(
     })
 }
 
-impl Rules<'_> {
-    // The findings that are told, of all of a file.
-    fn told(
+impl LintRules<'_> {
+    // The findings that are reported, of all of a file.
+    fn reported(
         &self,
         alloc: Global,
         all: Vec<LocatedFinding>,
     ) -> Result<Vec<LocatedFinding>, AllocError>
-        ensures { IfOk result (λ told.
-            told.items ≡ filter (tells (judging_of self.now)) all.items) }
+        ensures { IfOk result (λ reported.
+            reported.items ≡ filter (tells (judging_of self.now)) all.items) }
     {
         if self.allowed.is_empty() {
             return Ok(all);
         }
-        let mut told = Vec::new(alloc);
+        let mut reported = Vec::new(alloc);
         for located in all {
             if self.tells(&located.finding) {
-                told.push(located)?;
+                reported.push(located)?;
             }
         }
-        Ok(told)
+        Ok(reported)
     }
 
-    // Whether a finding is told.
+    // Whether a finding is reported.
     fn tells(&self, finding: &Finding) -> bool
-        ensures { result ≡ is_told self.now.allowed.now self.now.tells_refusals finding.now }
+        ensures { result ≡ is_reported self.now.allowed.now self.now.tells_refusals finding.now }
     {
         !self.allows(finding) || self.tells_refusals && refuses(finding)
     }

@@ -74,16 +74,6 @@ impl Unanswered {
     }
 }
 
-impl From<AllocError> for Unanswered {
-    ghost use Rattle.nextest_config_command.specs.declared.files.Unanswered.TheVariants.{Memory};
-
-    ghost from_gives = { λ _ unanswered. unanswered ≡ Memory };
-
-    fn from(_error: AllocError) -> Self {
-        Unanswered::Memory
-    }
-}
-
 /// The file of a source, which has to be there.
 pub(crate) fn read_source<F: Files>(
     alloc: Global,
@@ -104,5 +94,15 @@ pub(crate) fn read_source<F: Files>(
             let path = source.path.as_str();
             Err(Unanswered::unread(alloc, path, reason.as_str()))
         }
+    }
+}
+
+impl From<AllocError> for Unanswered {
+    ghost use Rattle.nextest_config_command.specs.declared.files.Unanswered.TheVariants.{Memory};
+
+    ghost from_gives = { λ _ unanswered. unanswered ≡ Memory };
+
+    fn from(_error: AllocError) -> Self {
+        Unanswered::Memory
     }
 }

@@ -26,24 +26,268 @@ pub(crate) enum Found {
         /// The folder that may be meant in place of its `.config`.
         folder: Option<String>,
     },
-    /// A PATH of a lint can't be read, as this says: the others are told all the same.
+    /// A PATH of a lint can't be read, as this says: the others are reported all the same.
     Unread(String),
 }
 
-/// Reads the files of the tools in turn, those of a lower priority first, up to the first one that
-/// can't be read.
-pub(crate) fn read_tools<F: Files>(
-    alloc: Global,
-    files: &F,
-    request: &Request,
-) -> Result<Vec<SourceFile>, Unanswered>
-    ensures read { IfOk result (λ read.
-        AreToolsRead (F.holds files.now) request.now (map file_of read.items)) }
-    ensures unread { IfErr result
-        (UnlessMemory (IsFirstUnreadTool (F.holds files.now) request.now)) }
-{
-    let sources = tool_sources(alloc, request)?;
-    read_sources(alloc, files, sources.as_slice())
+/// Where files are looked for.
+#[derive(Clone, Copy)]
+pub(crate) struct Search<'a, F: Files> {
+    pub alloc: Global,
+    pub files: &'a F,
+}
+
+impl<F: Files> Search<'_, F> {
+    /// Reads the files of the tools in turn, those of a lower priority first, up to the first one
+    /// that can't be read.
+    pub fn read_tools(&self, request: &Request) -> Result<Vec<SourceFile>, Unanswered>
+        ensures read { IfOk result (λ read.
+            AreToolsRead (F.holds self.now.files.now) request.now (map file_of read.items)) }
+        ensures unread { IfErr result
+            (UnlessMemory (IsFirstUnreadTool (F.holds self.now.files.now) request.now)) }
+    {
+        let sources = tool_sources(self.alloc, request)?;
+        self.read_sources(sources.as_slice())
+    }
+
+    // Reads the files of the sources in turn, up to the first one that can't be read.
+    fn read_sources(&self, sources: &[ConfigSource]) -> Result<Vec<SourceFile>, Unanswered>
+        ensures read { IfOk result (λ read. AllZip (IsThere (F.holds self.now.files.now))
+            (map place_of sources.now) (map file_of read.items)) }
+        ensures unread { IfErr result (UnlessMemory (IsFirstFailure
+            (IsThere (F.holds self.now.files.now))
+            (λ place. IsUnreadAt (F.holds self.now.files.now) place.path)
+            (map place_of sources.now))) }
+    {
+        let mut read = Vec::new(self.alloc);
+        for source in sources {
+            let file = read_source(self.alloc, self.files, source)?;
+            push(&mut read, file)?;
+        }
+        Ok(read)
+    }
+
+    /// Looks for the repository's files in turn, up to the first one that can't be read; a lint
+    /// passes over a PATH that can't.
+    pub fn find_all(&self, request: &Request) -> Result<Vec<Found>, Unanswered>
+        ensures read { IfOk result (λ found.
+            AreAllFound (F.holds self.now.files.now) request.now (map outcome_of found.items)) }
+        ensures unread { IfErr result
+            (UnlessMemory (IsFirstUnreadFile (F.holds self.now.files.now) request.now)) }
+    {
+        let mut found = Vec::new(self.alloc);
+        for file in &request.repository {
+            let file = self.find_or_pass(&request.task, file)?;
+            push(&mut found, file)?;
+        }
+        Ok(found)
+    }
+
+    // Looks for a repository's file, which a lint passes over where it is a PATH that can't be
+    // read.
+    fn find_or_pass(&self, task: &Task, file: &RepositoryFile) -> Result<Found, Unanswered>
+        ensures read { IfOk result (λ found. IsOutcome (F.holds self.now.files.now) task.now
+            (wanted_of file.now) (outcome_of found)) }
+        ensures unread { IfErr result
+            (UnlessMemory (IsStopped (F.holds self.now.files.now) task.now (wanted_of file.now))) }
+    {
+        match self.find(file) {
+            Err(Unanswered::Unread(said)) if passes_over(task, file) => Ok(Found::Unread(said)),
+            found => found,
+        }
+    }
+
+    // Looks for a repository's file.
+    fn find(&self, file: &RepositoryFile) -> Result<Found, Unanswered>
+        ensures read { IfOk result (λ found.
+            IsFound (F.holds self.now.files.now) (wanted_of file.now) (outcome_of found)) }
+        ensures unread { IfErr result
+            (UnlessMemory (IsUnread (F.holds self.now.files.now) (wanted_of file.now))) }
+    {
+        match file {
+            RepositoryFile::Explicit(path) => self.find_named(path.as_str()),
+            RepositoryFile::At(path) => self.find_at(path.as_str()),
+            RepositoryFile::Input(name) => self.find_input(name.as_str()),
+            RepositoryFile::In(path) => self.find_in_folder(path.as_str()),
+            RepositoryFile::Nearest(path) => { self.find_nearest(folders_above(path.as_str())) }
+        }
+    }
+
+    // The file that the user names.
+    fn find_named(&self, path: &str) -> Result<Found, Unanswered>
+        ensures read { IfOk result (λ found.
+            IsFound (F.holds self.now.files.now) (named path.now) (outcome_of found)) }
+        ensures unread { IfErr result
+            (UnlessMemory (IsUnread (F.holds self.now.files.now) (named path.now))) }
+    {
+        let source = ConfigSource::of_repository(self.alloc, true, path)?;
+        let file = read_source(self.alloc, self.files, &source)?;
+        Ok(Found::File(file))
+    }
+
+    // What is at a path, or in the folder there.
+    fn find_at(&self, path: &str) -> Result<Found, Unanswered>
+        ensures read { IfOk result (λ found.
+            IsFound (F.holds self.now.files.now) (at_path path.now) (outcome_of found)) }
+        ensures unread { IfErr result
+            (UnlessMemory (IsUnread (F.holds self.now.files.now) (at_path path.now))) }
+    {
+        match self.files.read(self.alloc, path)? {
+            FileRead::Contents(contents) => {
+                let file = found_file(self.alloc, path, contents)?;
+                Ok(file)
+            }
+            FileRead::Folder(_) => self.find_in(path),
+            FileRead::Absent(reason) | FileRead::Unreadable(reason) => {
+                Err(Unanswered::unread(self.alloc, path, reason.as_str()))
+            }
+        }
+    }
+
+    // Standard input, called so.
+    fn find_input(&self, name: &str) -> Result<Found, Unanswered>
+        ensures read { IfOk result (λ found.
+            IsFound (F.holds self.now.files.now) (input name.now) (outcome_of found)) }
+        ensures unread { IfErr result
+            (UnlessMemory (IsUnread (F.holds self.now.files.now) (input name.now))) }
+    {
+        match self.files.read_input(self.alloc)? {
+            FileRead::Folder(reason) | FileRead::Absent(reason) | FileRead::Unreadable(reason) => {
+                Err(Unanswered::unread(self.alloc, name, reason.as_str()))
+            }
+            FileRead::Contents(contents) => {
+                let file = found_file(self.alloc, name, contents)?;
+                Ok(file)
+            }
+        }
+    }
+
+    // The file in what has to be a folder.
+    fn find_in_folder(&self, path: &str) -> Result<Found, Unanswered>
+        ensures read { IfOk result (λ found.
+            IsFound (F.holds self.now.files.now) (in_folder path.now) (outcome_of found)) }
+        ensures unread { IfErr result
+            (UnlessMemory (IsUnread (F.holds self.now.files.now) (in_folder path.now))) }
+    {
+        let read = self.files.read(self.alloc, path)?;
+        match read {
+            FileRead::Contents(_) => Err(Unanswered::unread(self.alloc, path, "not a folder")),
+            FileRead::Folder(_) => self.find_in(path),
+            FileRead::Absent(reason) | FileRead::Unreadable(reason) => {
+                Err(Unanswered::unread(self.alloc, path, reason.as_str()))
+            }
+        }
+    }
+
+    // The file in a folder, which may be missing.
+    fn find_in(&self, folder: &str) -> Result<Found, Unanswered>
+        ensures read { IfOk result (λ found.
+            IsFoundIn (F.holds self.now.files.now) folder.now (outcome_of found)) }
+        ensures unread { IfErr result
+            (UnlessMemory (IsUnreadIn (F.holds self.now.files.now) folder.now)) }
+    {
+        let path = join_path(self.alloc, folder, USUAL_PATH)?;
+        self.look_for(folder, path.as_str())
+    }
+
+    // The file of a folder at its path, where one is looked for.
+    fn look_for(&self, folder: &str, path: &str) -> Result<Found, Unanswered>
+        ensures read { IfOk result (λ found.
+            IsFoundThere (F.holds self.now.files.now) folder.now path.now (outcome_of found)) }
+        ensures unread { IfErr result
+            (UnlessMemory (IsUnreadThere (F.holds self.now.files.now) path.now)) }
+    {
+        match self.files.read(self.alloc, path)? {
+            FileRead::Contents(contents) => {
+                let file = found_file(self.alloc, path, contents)?;
+                Ok(file)
+            }
+            FileRead::Absent(_) => {
+                let found = self.missing(folder, path)?;
+                Ok(found)
+            }
+            FileRead::Folder(reason) | FileRead::Unreadable(reason) => {
+                Err(Unanswered::unread(self.alloc, path, reason.as_str()))
+            }
+        }
+    }
+
+    // That a folder has no file at its path.
+    fn missing(&self, folder: &str, path: &str) -> Result<Found, AllocError>
+        ensures { IfOk result (λ found.
+            IsMissing (F.holds self.now.files.now) folder.now path.now (outcome_of found)) }
+    {
+        let folder = self.folder_meant(folder)?;
+        let path = String::from_str(self.alloc, path)?;
+        Ok(Found::Missing { path, folder })
+    }
+
+    // The folder that may be meant by a path: the one of which it is the `.config`, if that has the
+    // file.
+    fn folder_meant(&self, path: &str) -> Result<Option<String>, AllocError>
+        ensures { IfOk result (λ meant.
+            IsMeant (F.holds self.now.files.now) path.now (option_map string_bytes meant)) }
+    {
+        match folder_of_config(path) {
+            Some(folder) => {
+                let meant = self.meant_by(path, folder)?;
+                Ok(meant)
+            }
+            None => Ok(None),
+        }
+    }
+
+    // The folder of a `.config`, if that has the file.
+    fn meant_by(&self, path: &str, folder: &str) -> Result<Option<String>, AllocError>
+        ensures { IfOk result (λ meant. IsMeantBy (F.holds self.now.files.now) path.now
+            (Some folder.now) (option_map string_bytes meant)) }
+    {
+        let file = join_path(self.alloc, path, "nextest.toml")?;
+        let read = self.files.read(self.alloc, file.as_str())?;
+        if !has_contents(&read) {
+            return Ok(None);
+        }
+        let folder = String::from_str(self.alloc, folder)?;
+        Ok(Some(folder))
+    }
+
+    // The first file in so many folders, from the current one upwards.
+    fn find_nearest(&self, many: usize) -> Result<Found, Unanswered>
+        ensures read { IfOk result (λ found.
+            IsNearest (F.holds self.now.files.now) many (outcome_of found)) }
+        ensures unread { IfErr result
+            (UnlessMemory (IsUnreadAbove (F.holds self.now.files.now) many)) }
+    {
+        let mut path = String::from_str(self.alloc, USUAL_PATH)?;
+        for _level in 0..many {
+            if let Some(found) = self.meet(path.as_str())? {
+                return Ok(found);
+            }
+            path = format!(in self.alloc; "../{path}")?;
+        }
+        let path = String::from_str(self.alloc, USUAL_PATH)?;
+        Ok(Found::Missing { path, folder: None })
+    }
+
+    // The file at a path, or that the walk passes it.
+    fn meet(&self, path: &str) -> Result<Option<Found>, Unanswered>
+        ensures read { IfOk result (λ met. MatchOption met
+            (IsPassedAt (F.holds self.now.files.now) path.now)
+            (λ found. IsMetAt (F.holds self.now.files.now) path.now (outcome_of found))) }
+        ensures unread { IfErr result
+            (UnlessMemory (IsUnreadOnWalk (F.holds self.now.files.now) path.now)) }
+    {
+        match self.files.read(self.alloc, path)? {
+            FileRead::Contents(contents) => {
+                let file = found_file(self.alloc, path, contents)?;
+                Ok(Some(file))
+            }
+            FileRead::Folder(_) | FileRead::Absent(_) => Ok(None),
+            FileRead::Unreadable(reason) => {
+                Err(Unanswered::unread(self.alloc, path, reason.as_str()))
+            }
+        }
+    }
 }
 
 // Where the files of the tools come from, those of a lower priority first.
@@ -55,63 +299,6 @@ fn tool_sources(alloc: Global, request: &Request) -> Result<Vec<ConfigSource>, A
         sources.push(ConfigSource::of_tool(alloc, tool)?)?;
     }
     Ok(sources)
-}
-
-// Reads the files of the sources in turn, up to the first one that can't be read.
-fn read_sources<F: Files>(
-    alloc: Global,
-    files: &F,
-    sources: &[ConfigSource],
-) -> Result<Vec<SourceFile>, Unanswered>
-    ensures read { IfOk result (λ read. AllZip (IsThere (F.holds files.now))
-        (map place_of sources.now) (map file_of read.items)) }
-    ensures unread { IfErr result (UnlessMemory (IsFirstFailure (IsThere (F.holds files.now))
-        (λ place. IsUnreadAt (F.holds files.now) place.path) (map place_of sources.now))) }
-{
-    let mut read = Vec::new(alloc);
-    for source in sources {
-        let file = read_source(alloc, files, source)?;
-        push(&mut read, file)?;
-    }
-    Ok(read)
-}
-
-/// Looks for the repository's files in turn, up to the first one that can't be read; a lint passes
-/// over a PATH that can't.
-pub(crate) fn find_all<F: Files>(
-    alloc: Global,
-    files: &F,
-    request: &Request,
-) -> Result<Vec<Found>, Unanswered>
-    ensures read { IfOk result (λ found.
-        AreAllFound (F.holds files.now) request.now (map outcome_of found.items)) }
-    ensures unread { IfErr result
-        (UnlessMemory (IsFirstUnreadFile (F.holds files.now) request.now)) }
-{
-    let mut found = Vec::new(alloc);
-    for file in &request.repository {
-        let file = find_or_pass(alloc, files, &request.task, file)?;
-        push(&mut found, file)?;
-    }
-    Ok(found)
-}
-
-// Looks for a repository's file, which a lint passes over where it is a PATH that can't be read.
-fn find_or_pass<F: Files>(
-    alloc: Global,
-    files: &F,
-    task: &Task,
-    file: &RepositoryFile,
-) -> Result<Found, Unanswered>
-    ensures read { IfOk result (λ found.
-        IsOutcome (F.holds files.now) task.now (wanted_of file.now) (outcome_of found)) }
-    ensures unread { IfErr result
-        (UnlessMemory (IsStopped (F.holds files.now) task.now (wanted_of file.now))) }
-{
-    match find(alloc, files, file) {
-        Err(Unanswered::Unread(said)) if passes_over(task, file) => Ok(Found::Unread(said)),
-        found => found,
-    }
 }
 
 // Whether a file that can't be read leaves the others as they are.
@@ -140,175 +327,6 @@ fn push<T: Drop>(items: &mut Vec<T>, item: T) -> Result<(), AllocError>
     Ok(())
 }
 
-// Looks for a repository's file.
-fn find<F: Files>(alloc: Global, files: &F, file: &RepositoryFile) -> Result<Found, Unanswered>
-    ensures read { IfOk result (λ found.
-        IsFound (F.holds files.now) (wanted_of file.now) (outcome_of found)) }
-    ensures unread { IfErr result
-        (UnlessMemory (IsUnread (F.holds files.now) (wanted_of file.now))) }
-{
-    match file {
-        RepositoryFile::Explicit(path) => find_named(alloc, files, path.as_str()),
-        RepositoryFile::At(path) => find_at(alloc, files, path.as_str()),
-        RepositoryFile::Input(name) => find_input(alloc, files, name.as_str()),
-        RepositoryFile::In(path) => find_in_folder(alloc, files, path.as_str()),
-        RepositoryFile::Nearest(path) => {
-            find_nearest(alloc, files, folders_above(path.as_str()))
-        }
-    }
-}
-
-// The file that the user names.
-fn find_named<F: Files>(alloc: Global, files: &F, path: &str) -> Result<Found, Unanswered>
-    ensures read { IfOk result (λ found.
-        IsFound (F.holds files.now) (named path.now) (outcome_of found)) }
-    ensures unread { IfErr result (UnlessMemory (IsUnread (F.holds files.now) (named path.now))) }
-{
-    let source = ConfigSource::of_repository(alloc, true, path)?;
-    let file = read_source(alloc, files, &source)?;
-    Ok(Found::File(file))
-}
-
-// What is at a path, or in the folder there.
-fn find_at<F: Files>(alloc: Global, files: &F, path: &str) -> Result<Found, Unanswered>
-    ensures read { IfOk result (λ found.
-        IsFound (F.holds files.now) (at_path path.now) (outcome_of found)) }
-    ensures unread { IfErr result (UnlessMemory (IsUnread (F.holds files.now) (at_path path.now))) }
-{
-    match files.read(alloc, path)? {
-        FileRead::Contents(contents) => {
-            let file = found_file(alloc, path, contents)?;
-            Ok(file)
-        }
-        FileRead::Folder(_) => find_in(alloc, files, path),
-        FileRead::Absent(reason) | FileRead::Unreadable(reason) => {
-            Err(Unanswered::unread(alloc, path, reason.as_str()))
-        }
-    }
-}
-
-// Standard input, called so.
-fn find_input<F: Files>(alloc: Global, files: &F, name: &str) -> Result<Found, Unanswered>
-    ensures read { IfOk result (λ found.
-        IsFound (F.holds files.now) (input name.now) (outcome_of found)) }
-    ensures unread { IfErr result (UnlessMemory (IsUnread (F.holds files.now) (input name.now))) }
-{
-    match files.read_input(alloc)? {
-        FileRead::Contents(contents) => {
-            let file = found_file(alloc, name, contents)?;
-            Ok(file)
-        }
-        FileRead::Folder(reason) | FileRead::Absent(reason) | FileRead::Unreadable(reason) => {
-            Err(Unanswered::unread(alloc, name, reason.as_str()))
-        }
-    }
-}
-
-// The file in what has to be a folder.
-fn find_in_folder<F: Files>(alloc: Global, files: &F, path: &str) -> Result<Found, Unanswered>
-    ensures read { IfOk result (λ found.
-        IsFound (F.holds files.now) (in_folder path.now) (outcome_of found)) }
-    ensures unread { IfErr result
-        (UnlessMemory (IsUnread (F.holds files.now) (in_folder path.now))) }
-{
-    match files.read(alloc, path)? {
-        FileRead::Contents(_) => Err(Unanswered::unread(alloc, path, "not a folder")),
-        FileRead::Folder(_) => find_in(alloc, files, path),
-        FileRead::Absent(reason) | FileRead::Unreadable(reason) => {
-            Err(Unanswered::unread(alloc, path, reason.as_str()))
-        }
-    }
-}
-
-// The file in a folder, which may be missing.
-fn find_in<F: Files>(alloc: Global, files: &F, folder: &str) -> Result<Found, Unanswered>
-    ensures read { IfOk result (λ found.
-        IsFoundIn (F.holds files.now) folder.now (outcome_of found)) }
-    ensures unread { IfErr result (UnlessMemory (IsUnreadIn (F.holds files.now) folder.now)) }
-{
-    let path = join_path(alloc, folder, USUAL_PATH)?;
-    look_for(alloc, files, folder, path.as_str())
-}
-
-// The file of a folder at its path, where one is looked for.
-fn look_for<F: Files>(
-    alloc: Global,
-    files: &F,
-    folder: &str,
-    path: &str,
-) -> Result<Found, Unanswered>
-    ensures read { IfOk result (λ found.
-        IsFoundThere (F.holds files.now) folder.now path.now (outcome_of found)) }
-    ensures unread { IfErr result (UnlessMemory (IsUnreadThere (F.holds files.now) path.now)) }
-{
-    match files.read(alloc, path)? {
-        FileRead::Contents(contents) => {
-            let file = found_file(alloc, path, contents)?;
-            Ok(file)
-        }
-        FileRead::Absent(_) => {
-            let found = missing(alloc, files, folder, path)?;
-            Ok(found)
-        }
-        FileRead::Folder(reason) | FileRead::Unreadable(reason) => {
-            Err(Unanswered::unread(alloc, path, reason.as_str()))
-        }
-    }
-}
-
-// That a folder has no file at its path.
-fn missing<F: Files>(
-    alloc: Global,
-    files: &F,
-    folder: &str,
-    path: &str,
-) -> Result<Found, AllocError>
-    ensures { IfOk result (λ found.
-        IsMissing (F.holds files.now) folder.now path.now (outcome_of found)) }
-{
-    let folder = folder_meant(alloc, files, folder)?;
-    let path = String::from_str(alloc, path)?;
-    Ok(Found::Missing { path, folder })
-}
-
-// The folder that may be meant by a path: the one of which it is the `.config`, if that has the
-// file.
-fn folder_meant<F: Files>(
-    alloc: Global,
-    files: &F,
-    path: &str,
-) -> Result<Option<String>, AllocError>
-    ensures { IfOk result
-        (λ meant. IsMeant (F.holds files.now) path.now (option_map string_bytes meant)) }
-{
-    match folder_of_config(path) {
-        Some(folder) => {
-            let meant = meant_by(alloc, files, path, folder)?;
-            Ok(meant)
-        }
-        None => Ok(None),
-    }
-}
-
-// The folder of a `.config`, if that has the file.
-fn meant_by<F: Files>(
-    alloc: Global,
-    files: &F,
-    path: &str,
-    folder: &str,
-) -> Result<Option<String>, AllocError>
-    ensures { IfOk result (λ meant. IsMeantBy (F.holds files.now) path.now (Some folder.now)
-        (option_map string_bytes meant)) }
-{
-    let file = join_path(alloc, path, "nextest.toml")?;
-    let read = files.read(alloc, file.as_str())?;
-    if !has_contents(&read) {
-        return Ok(None);
-    }
-    let folder = String::from_str(alloc, folder)?;
-    Ok(Some(folder))
-}
-
 fn has_contents(read: &FileRead) -> bool
     ensures { result ≡ has_bytes (path_state_of read.now) }
 {
@@ -325,38 +343,6 @@ fn folder_of_config(path: &str) -> Option<&str>
     match path.strip_suffix("/.config") {
         Some("") => Some("/"),
         folder => folder,
-    }
-}
-
-// The first file in so many folders, from the current one upwards.
-fn find_nearest<F: Files>(alloc: Global, files: &F, many: usize) -> Result<Found, Unanswered>
-    ensures read { IfOk result (λ found. IsNearest (F.holds files.now) many (outcome_of found)) }
-    ensures unread { IfErr result (UnlessMemory (IsUnreadAbove (F.holds files.now) many)) }
-{
-    let mut path = String::from_str(alloc, USUAL_PATH)?;
-    for _level in 0..many {
-        if let Some(found) = meet(alloc, files, path.as_str())? {
-            return Ok(found);
-        }
-        path = format!(in alloc; "../{path}")?;
-    }
-    let path = String::from_str(alloc, USUAL_PATH)?;
-    Ok(Found::Missing { path, folder: None })
-}
-
-// The file at a path, or that the walk passes it.
-fn meet<F: Files>(alloc: Global, files: &F, path: &str) -> Result<Option<Found>, Unanswered>
-    ensures read { IfOk result (λ met. MatchOption met (IsPassedAt (F.holds files.now) path.now)
-        (λ found. IsMetAt (F.holds files.now) path.now (outcome_of found))) }
-    ensures unread { IfErr result (UnlessMemory (IsUnreadOnWalk (F.holds files.now) path.now)) }
-{
-    match files.read(alloc, path)? {
-        FileRead::Contents(contents) => {
-            let file = found_file(alloc, path, contents)?;
-            Ok(Some(file))
-        }
-        FileRead::Folder(_) | FileRead::Absent(_) => Ok(None),
-        FileRead::Unreadable(reason) => Err(Unanswered::unread(alloc, path, reason.as_str())),
     }
 }
 

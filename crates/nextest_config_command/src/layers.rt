@@ -1,4 +1,4 @@
-//! Files as the layers that profiles are told by.
+//! Files as the layers of which profiles are made.
 
 ghost use Rattle.std.specs.Prelude.{IfOk};
 ghost use Rattle.std.specs.List.{AllZip};

@@ -24,6 +24,6 @@ pub use files::{FileRead, Files};
 pub use nextest_config_lint::FindingCode;
 pub use nextest_config_output::findings::Format;
 pub use nextest_config_report::show::ShowFormat;
-pub use request::{Check, LintOptions, ProfileTask, RepositoryFile, Request, Task};
+pub use request::{CheckTask, LintOptions, ProfileTask, RepositoryFile, Request, Task};
 pub use streams::serve;
 pub use words::{Misuse, Words};

@@ -1,14 +1,14 @@
-//! What is told of the findings of files.
+//! What is reported of the findings of files.
 
 ghost use Rattle.std.specs.Prelude.{◌≡◌, ◌++◌, IfOk, OnOk, count_by, flat_map, map, string_bytes};
 ghost use Rattle.std.specs.Str.Lines.{lines};
 ghost use Rattle.nextest_config_command.specs.FileFindings.{found_of, is_error, judging_of};
 ghost use Rattle.nextest_config_command.specs.Found.{files_of};
-ghost use Rattle.nextest_config_command.specs.Lint.{AreTextsOf, fails_by, file_text, is_note, IsLint, is_warning, lint_status, lint_text, located_text, path_if, paths_in, severities_of, severity_of, shown_text, summary_line, summary_of, diagnostic_of};
+ghost use Rattle.nextest_config_command.specs.Lint.{AreTextsOf, fails_by, file_text, is_note, IsLint, is_warning, lint_status, lint_text, located_text, path_if, paths_in, severities_of, severity_of, contents_shown, summary_line, summary_of, diagnostic_of};
 ghost use Rattle.nextest_config_output.specs.Findings.Diagnostic.{diagnostic_text};
 
 use crate::distinct::count_distinct;
-use crate::file_findings::{FileFindings, Rules, findings_in};
+use crate::file_findings::{FileFindings, Judged, LintRules};
 use crate::parsed_file::ParsedFiles;
 use nextest_config_lint::{Finding, FindingSeverity, LocatedFinding, PathText};
 use nextest_config_output::findings::{Diagnostic, Format, Summary, push_finding};
@@ -17,7 +17,7 @@ use nextest_config_values::read::Word;
 use std::alloc::{AllocError, Global};
 use std::fmt::Write;
 
-/// What is told of files: their findings, and how many there are.
+/// What is reported of files: their findings, and how many there are.
 #[derive(Drop)]
 pub(crate) struct Lint {
     pub text: String,
@@ -25,16 +25,21 @@ pub(crate) struct Lint {
 }
 
 impl Lint {
-    /// What is told of the files, judged by these rules, in a format.
+    /// What is reported of the files, judged by these rules, in a format.
     pub fn of(
         alloc: Global,
-        rules: Rules<'_>,
+        rules: LintRules<'_>,
         format: Format,
         files: &ParsedFiles<'_>,
     ) -> Result<Self, AllocError>
         ensures { IfOk result (IsLint (judging_of rules.entry) format (files_of files.now)) }
     {
-        let found = findings_in(alloc, rules, files)?;
+        let judged = Judged {
+            alloc,
+            rules,
+            files,
+        };
+        let found = judged.findings()?;
         let lint = lint_of(alloc, format, found.as_slice())?;
         Ok(lint)
     }
@@ -57,7 +62,7 @@ impl Lint {
     }
 }
 
-// What is told of findings.
+// What is reported of findings.
 fn lint_of(alloc: Global, format: Format, found: &[FileFindings<'_>]) -> Result<Lint, AllocError>
     ensures text { IfOk result (λ lint.
         string_bytes lint.text ≡ lint_text format (map found_of found.now)) }
@@ -208,7 +213,7 @@ fn push_file(
     if found.located.is_empty() {
         return Ok(());
     }
-    let shown = shown_text(alloc, format, found.contents)?;
+    let shown = contents_shown(alloc, format, found.contents)?;
     let lines = lines(alloc, shown.as_str())?;
     push_located(
         alloc,
@@ -222,8 +227,8 @@ fn push_file(
 }
 
 // What is shown of a file, where the format shows its lines.
-fn shown_text(alloc: Global, format: Format, contents: &[u8]) -> Result<String, AllocError>
-    ensures { IfOk result (λ shown. string_bytes shown ≡ shown_text format contents.now) }
+fn contents_shown(alloc: Global, format: Format, contents: &[u8]) -> Result<String, AllocError>
+    ensures { IfOk result (λ shown. string_bytes shown ≡ contents_shown format contents.now) }
 {
     match format {
         Format::Full => String::from_utf8_lossy(alloc, contents),
@@ -260,7 +265,7 @@ fn push_located(
     Ok(())
 }
 
-// What is told of a finding in texts that are written anew for each, and so keep their memory.
+// What is reported of a finding in texts that are written anew for each, and so keep their memory.
 #[derive(Drop)]
 struct FindingTexts {
     key: String,
@@ -291,7 +296,8 @@ fn push_one(
 ) -> Result<(), AllocError>
     requires { AreTextsOf located.now.finding texts.now }
     ensures { OnOk result (string_bytes text.new ≡ string_bytes text.old
-        ++ diagnostic_text format (diagnostic_of path.now located.now) (map (λ line. line.now) lines.now)) }
+        ++ diagnostic_text format (diagnostic_of path.now located.now)
+        (map (λ line. line.now) lines.now)) }
 {
     let LocatedFinding { span, finding } = located;
     let diagnostic = Diagnostic {

@@ -1,18 +1,20 @@
 //! What the command answers about a profile.
 
-ghost use Rattle.std.specs.Prelude.{◌≡◌, ◌==◌, ◌++◌, IfOk, map, MatchOption, OnOk, string_bytes};
+ghost use Rattle.std.specs.Prelude.{◌≡◌, ◌==◌, ◌++◌, codes, IfOk, map, MatchOption, Some, string_bytes};
 ghost use Rattle.std.specs.List.{list_any};
 ghost use Rattle.nextest_config_profiles.specs.Inherits.{IsPlacedFault};
 ghost use Rattle.nextest_config_profiles.specs.Profile.{profile_wrong};
 ghost use Rattle.nextest_config_profiles.specs.Report.Wanted.{path_of};
-ghost use Rattle.nextest_config_command.specs.Answer.{answer_of};
+ghost use Rattle.nextest_config_command.specs.Answer.{answer_of, says};
 ghost use Rattle.nextest_config_command.specs.FileList.{AreDocuments};
 ghost use Rattle.nextest_config_command.specs.Found.{all_files, files_of};
-ghost use Rattle.nextest_config_command.specs.Profile.{front_text, IsAnsweredBy, IsNarrowedIf, IsNoProfileTold, IsProfiled, IsProfileIn, IsRefusedFor, IsReported, IsReportTold, IsWantedReport, IsWrongTold, line_text, is_like_path, lint_format, no_text, path_hint, ring_text, status_told, undefined_text};
+ghost use Rattle.nextest_config_command.specs.Profile.{front_text, IsAnsweredBy, IsNarrowedIf, IsNoProfileReported, IsProfiled, IsProfileIn, IsReported, IsReportWritten, IsWantedReport, IsWrongReported, line_text, is_like_path, lint_format, no_text, path_hint, ring_text, status_reported, undefined_text};
+ghost use Rattle.nextest_config_command.specs.Printed.{for_people};
 ghost use Rattle.nextest_config_command.specs.Request.{slash};
+ghost use Rattle.nextest_config_report.specs.declared.exit_status.ExitStatus.TheVariants.{Refused};
 
 use crate::answer::Answer;
-use crate::file_findings::Rules;
+use crate::file_findings::LintRules;
 use crate::layers::{indexed_files, layers};
 use crate::lint::Lint;
 use crate::parsed_file::ParsedFiles;
@@ -30,7 +32,7 @@ use nextest_config_report::names::push_names;
 use nextest_config_report::show::ShowFormat;
 use nextest_config_values::read::{QuotedText, found_text};
 use std::alloc::{AllocError, Global};
-use std::fmt::Write;
+use std::fmt;
 use toml_spans::Span;
 
 /// What the profile gets for its settings by these files, or why it gets nothing.
@@ -43,7 +45,7 @@ pub(crate) fn profile(
     ensures { IfOk result (λ answer.
         IsProfiled edition (files_of files.now) task.now (answer_of answer)) }
 {
-    let rules = Rules {
+    let rules = LintRules {
         edition,
         allowed: &[],
         tells_refusals: false,
@@ -57,7 +59,7 @@ pub(crate) fn profile(
     Ok(answer)
 }
 
-// How it is told what is wrong with the files.
+// How what is wrong with the files is reported.
 fn lint_format(format: ShowFormat) -> Format
     ensures { result ≡ lint_format format }
 {
@@ -98,7 +100,8 @@ fn profile_by<'a>(
             Ok(answer)
         }
         Err(fault) => {
-            let answer = refusal(alloc, layers, task.name.as_str(), &fault)?;
+            let said = fault_text(alloc, layers, task.name.as_str(), &fault)?;
+            let answer = fault_answer(alloc, said)?;
             Ok(answer)
         }
     }
@@ -113,11 +116,11 @@ fn report_of(
     ensures { IfOk result (λ answer. IsReported profile.now task.now (answer_of answer)) }
 {
     let report = wanted_report(alloc, task, profile)?;
-    let answer = told(alloc, task.format, &report)?;
+    let answer = report_answer(alloc, task.format, &report)?;
     Ok(answer)
 }
 
-// What is told of a profile: of all keys, or of those alone that are asked for.
+// What is reported of a profile: of all keys, or of those alone that are asked for.
 fn wanted_report<'p>(
     alloc: Global,
     task: &ProfileTask,
@@ -140,9 +143,13 @@ fn narrow(report: &mut ProfileReport<'_>, wanted: &[WantedKey])
     }
 }
 
-// What is told of a profile, as an answer.
-fn told(alloc: Global, format: ShowFormat, report: &ProfileReport<'_>) -> Result<Answer, AllocError>
-    ensures { IfOk result (λ answer. IsReportTold format report.now (answer_of answer)) }
+// What is reported of a profile, as an answer.
+fn report_answer(
+    alloc: Global,
+    format: ShowFormat,
+    report: &ProfileReport<'_>,
+) -> Result<Answer, AllocError>
+    ensures { IfOk result (λ answer. IsReportWritten format report.now (answer_of answer)) }
 {
     let text = Printed::in_show_format(format, profile_text(alloc, format, report)?);
     let said = Printed::ForPeople(other_profiles_text(alloc, report)?);
@@ -152,7 +159,7 @@ fn told(alloc: Global, format: ShowFormat, report: &ProfileReport<'_>) -> Result
 
 // How the command ends: what nextest would refuse fails it.
 fn status_of(report: &ProfileReport<'_>) -> ExitStatus
-    ensures { result ≡ status_told report.now }
+    ensures { result ≡ status_reported report.now }
 {
     if report.has_fault() {
         return ExitStatus::Failure;
@@ -160,18 +167,12 @@ fn status_of(report: &ProfileReport<'_>) -> ExitStatus
     ExitStatus::Success
 }
 
-// Why the profile has no settings, as an answer.
-fn refusal<'a>(
-    alloc: Global,
-    layers: &'a [Layer<'a>],
-    name: &str,
-    fault: &ProfileFault<'a>,
-) -> Result<Answer, AllocError>
-    requires { IsPlacedFault layers.now fault.now }
-    ensures { IfOk result (λ answer. MatchOption (profile_wrong fault.now) ⊥
-        (λ wrong. IsRefusedFor layers.now name.now wrong (answer_of answer))) }
+// The answer that says why the profile has no settings.
+fn fault_answer(alloc: Global, fault: String) -> Result<Answer, AllocError>
+    ensures { IfOk result (λ answer. answer_of answer
+        ≡ says (for_people (string_bytes fault ++ codes "\n")) Refused) }
 {
-    let mut said = fault_text(alloc, layers, name, fault)?;
+    let mut said = fault;
     said.push_str("\n")?;
     Ok(Answer::says(alloc, Printed::ForPeople(said), ExitStatus::Refused))
 }
@@ -185,22 +186,25 @@ fn fault_text<'a>(
 ) -> Result<String, AllocError>
     requires { IsPlacedFault layers.now fault.now }
     ensures { IfOk result (λ text. MatchOption (profile_wrong fault.now) ⊥
-        (λ wrong. IsWrongTold layers.now name.now wrong (string_bytes text))) }
+        (λ wrong. IsWrongReported layers.now name.now wrong (string_bytes text))) }
 {
     match fault {
         ProfileFault::NoProfile => no_profile_text(alloc, layers, name),
-        ProfileFault::Ring { profile, place } => ring_text(alloc, profile.as_str(), place),
+        ProfileFault::Ring { profile, place } => ring_text(alloc, place, profile.as_str()),
         ProfileFault::NotDefined { parent, place, .. } => {
-            undefined_text(alloc, parent.as_str(), place)
+            undefined_text(alloc, place, parent.as_str())
         }
-        ProfileFault::NotText { place, .. } => no_text(alloc, place),
+        ProfileFault::NotText { place, .. } => {
+            let said = no_text(alloc, place)?;
+            format!(in alloc; "{}{said}", Front(place))
+        }
         ProfileFault::Memory => Err(AllocError),
     }
 }
 
 // That there is no profile of the name, and which there are.
 fn no_profile_text(alloc: Global, layers: &[Layer<'_>], name: &str) -> Result<String, AllocError>
-    ensures { IfOk result (λ text. IsNoProfileTold layers.now name.now (string_bytes text)) }
+    ensures { IfOk result (λ text. IsNoProfileReported layers.now name.now (string_bytes text)) }
 {
     let names = profile_names(alloc, layers)?;
     let mut text = format!(in alloc; "no profile {}, there are ", QuotedText(name))?;
@@ -236,85 +240,72 @@ fn has_slash(name: &str) -> bool
 // That a profile inherits from itself, where it does.
 fn ring_text(
     alloc: Global,
-    profile: &str,
     place: &Option<InheritsPlace<'_>>,
+    profile: &str,
 ) -> Result<String, AllocError>
     ensures { IfOk result (λ text.
         string_bytes text ≡ front_text place.now ++ ring_text profile.now) }
 {
-    let mut text = String::new(alloc);
-    push_front(&mut text, place)?;
-    write!(
-        text,
-        "the profile {} inherits from itself",
-        QuotedText(profile)
-    )?;
-    Ok(text)
+    let (front, profile) = (Front(place), QuotedText(profile));
+    format!(in alloc; "{front}the profile {profile} inherits from itself")
 }
 
 // That a profile inherits from one that there isn't, where it does.
 fn undefined_text(
     alloc: Global,
-    parent: &str,
     place: &Option<InheritsPlace<'_>>,
+    parent: &str,
 ) -> Result<String, AllocError>
     ensures { IfOk result (λ text.
         string_bytes text ≡ front_text place.now ++ undefined_text parent.now) }
 {
-    let mut text = String::new(alloc);
-    push_front(&mut text, place)?;
-    write!(text, "no file defines the profile {}", QuotedText(parent))?;
-    Ok(text)
+    let (front, parent) = (Front(place), QuotedText(parent));
+    format!(in alloc; "{front}no file defines the profile {parent}")
 }
 
-// That what a profile has at `inherits` is no text, where it stands.
+// That what a profile has at `inherits` is no text.
 fn no_text(alloc: Global, place: &Option<InheritsPlace<'_>>) -> Result<String, AllocError>
-    ensures { IfOk result (λ text. string_bytes text ≡ front_text place.now ++ no_text place.now) }
-{
-    let mut text = String::new(alloc);
-    push_front(&mut text, place)?;
-    push_no_text(alloc, &mut text, place)?;
-    Ok(text)
-}
-
-// Pushes what a text was expected in place of.
-fn push_no_text(
-    alloc: Global,
-    text: &mut String,
-    place: &Option<InheritsPlace<'_>>,
-) -> Result<(), AllocError>
-    ensures { OnOk result (string_bytes text.new ≡ string_bytes text.old ++ no_text place.now) }
+    ensures { IfOk result (λ text. string_bytes text ≡ no_text place.now) }
 {
     match place {
         Some(place) => {
             let found = found_text(alloc, place.value)?;
-            write!(text, "invalid type: {found}, expected a string")
+            format!(in alloc; "invalid type: {found}, expected a string")
         }
-        None => text.push_str("expected a string"),
+        None => String::from_str(alloc, "expected a string"),
     }
 }
 
-// Pushes where it stands what a profile inherits from, if it stands anywhere.
-fn push_front(text: &mut String, place: &Option<InheritsPlace<'_>>) -> Result<(), AllocError>
-    ensures { OnOk result (string_bytes text.new ≡ string_bytes text.old ++ front_text place.now) }
-{
-    match place {
-        Some(place) => {
-            let path = place.file.source.path.as_str();
-            write!(text, "{}", Escaped(Escapes::InLine, path))?;
-            push_line(text, place.span)?;
-            text.push_str(": ")
+/// Where it stands what a profile inherits from, before what is said of it; nothing where it stands
+/// nowhere.
+#[derive(Clone, Copy)]
+struct Front<'a>(&'a Option<InheritsPlace<'a>>);
+
+impl fmt::Display for Front<'_> {
+    ghost output = { λ front. Some (front_text front.0.now) };
+
+    fn fmt<W: fmt::Write>(&self, f: &mut fmt::Formatter<W>) -> fmt::Result {
+        match self.0 {
+            Some(place) => {
+                let path = Escaped(Escapes::InLine, place.file.source.path.as_str());
+                write!(f, "{path}{}: ", LineMark(place.span))
+            }
+            None => Ok(()),
         }
-        None => Ok(()),
     }
 }
 
-// Pushes the line where a range begins.
-fn push_line(text: &mut String, span: Option<Span>) -> Result<(), AllocError>
-    ensures { OnOk result (string_bytes text.new ≡ string_bytes text.old ++ line_text span) }
-{
-    match span {
-        Some(span) => write!(text, ":{}", span.begin.line),
-        None => Ok(()),
+/// The line where a range begins, behind a path.
+#[derive(Clone, Copy)]
+struct LineMark(Option<Span>);
+
+impl fmt::Display for LineMark {
+    ghost output = { λ mark. Some (line_text mark.0) };
+
+    fn fmt<W: fmt::Write>(&self, f: &mut fmt::Formatter<W>) -> fmt::Result {
+        match self.0 {
+            Some(span) => write!(f, ":{}", span.begin.line),
+            None => Ok(()),
+        }
     }
 }

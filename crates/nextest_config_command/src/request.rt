@@ -40,44 +40,44 @@ pub enum RepositoryFile {
 #[derive(Debug, PartialEq, Eq, Drop)]
 pub enum Task {
     /// The current version is checked against what the files ask, and what is found in them is
-    /// told.
-    Check(Check),
-    /// What is found in the files is told.
+    /// reported.
+    Check(CheckTask),
+    /// What is found in the files is reported.
     Lint(LintOptions),
-    /// It is told what a profile gets for its settings, and which file says so.
+    /// What a profile gets for its settings is reported, and which file says so.
     Profile(ProfileTask),
-    /// What the files ask is told, and which profiles they have.
+    /// What the files ask is reported, and which profiles they have.
     Show(ShowFormat),
 }
 
 /// A check of the current version.
 #[derive(Debug, PartialEq, Eq, Drop)]
-pub struct Check {
+pub struct CheckTask {
     pub current: Version,
     pub override_version_check: bool,
-    /// How it is told what is found. Where it is strict, a version that is recommended and not
+    /// How what is found is reported. Where it is strict, a version that is recommended and not
     /// reached fails the check, too.
     pub lint: LintOptions,
 }
 
-/// How it is told what is found in files.
+/// How what is found in files is reported.
 #[derive(Debug, PartialEq, Eq, Drop)]
 pub struct LintOptions {
     pub format: Format,
     /// Whether a warning counts, and a file that is looked for and missing.
     pub strict: bool,
     /// The codes of findings that are left out. A finding for which a check refuses the files is
-    /// told in any case.
+    /// reported in any case.
     pub allowed: Vec<FindingCode>,
 }
 
-/// A profile that is told.
+/// A profile that is reported.
 #[derive(Debug, PartialEq, Eq, Drop)]
 pub struct ProfileTask {
     pub name: String,
-    /// Whether it is told, too, what each value hides.
+    /// Whether what each value hides is reported, too.
     pub all: bool,
-    /// The keys of which alone it is told; without any it is told of all.
+    /// The keys that alone are reported; without any, all are.
     pub keys: Vec<WantedKey>,
     pub format: ShowFormat,
 }

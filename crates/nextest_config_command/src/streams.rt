@@ -5,11 +5,11 @@ ghost use Rattle.nextest_config_report.specs.declared.exit_status.ExitStatus.The
 ghost use Rattle.nextest_config_report.specs.Streams.{AddsOrFails};
 ghost use Rattle.nextest_config_command.specs.Files.{unanswered_text, UnlessMemory};
 ghost use Rattle.nextest_config_command.specs.Found.{files_of, IsFirstUnread};
-ghost use Rattle.nextest_config_command.specs.Streams.{AddsPrintable, AddTwoPrintable, IsEnded, IsOutput, IsOutputAbout, is_told_to_people, IsWritten, IsUnwritten, line_of};
+ghost use Rattle.nextest_config_command.specs.Streams.{AddsPrintable, AddTwoPrintable, IsEnded, IsOutput, IsOutputAbout, is_read_by_people, IsWritten, IsUnwritten, line_of};
 
-use crate::answer::{Answer, answer_to};
+use crate::answer::{Answer, Engine};
 use crate::files::{Files, Unanswered};
-use crate::found::{find_all, read_tools};
+use crate::found::Search;
 use crate::parsed_file::ParsedFiles;
 use crate::request::Request;
 use nextest_config_report::exit_status::ExitStatus;
@@ -41,9 +41,9 @@ pub fn serve<F: Files, W: Stream, E: Stream>(
         (W.may_have_failed writer.new) (W.reader_may_be_gone writer.new)
         (W.contents writer.old) (W.contents writer.new)
         (E.may_have_failed faults.new) (E.contents faults.old) (E.contents faults.new) }
-    ensures writes_printable { IsTrue (is_told_to_people request.now.task)
+    ensures writes_printable { IsTrue (is_read_by_people request.now.task)
         → AddsPrintable (W.contents writer.old) (W.contents writer.new) }
-    ensures says_printable { IsTrue (is_told_to_people request.now.task)
+    ensures says_printable { IsTrue (is_read_by_people request.now.task)
         → AddTwoPrintable (E.contents faults.old) (E.contents faults.new) }
 {
     match output_of(alloc, request, files) {
@@ -57,8 +57,9 @@ fn output_of<F: Files>(alloc: Global, request: &Request, files: &F) -> Result<Ou
     ensures output { IfOk result (IsOutput (F.holds files.now) request.now) }
     ensures unread { IfErr result (UnlessMemory (IsFirstUnread (F.holds files.now) request.now)) }
 {
-    let tools = read_tools(alloc, files, request)?;
-    let found = find_all(alloc, files, request)?;
+    let search = Search { alloc, files };
+    let tools = search.read_tools(request)?;
+    let found = search.find_all(request)?;
     let parsed = ParsedFiles::of(alloc, tools.as_slice(), found.as_slice())?;
     let output = output_about(alloc, request, &parsed)?;
     Ok(output)
@@ -74,7 +75,12 @@ fn output_about(
 {
     let notices = String::from_str(alloc, files.notices.as_str())?;
     let mut notices = shown_lines(alloc, notices)?;
-    let Answer { text, said, status } = answer_to(alloc, request.edition, &request.task, files)?;
+    let engine = Engine {
+        alloc,
+        edition: request.edition,
+        files,
+    };
+    let Answer { text, said, status } = engine.answer_to(&request.task)?;
     let said = said.text(alloc)?;
     notices.push_str(said.as_str())?;
     let text = text.text(alloc)?;
@@ -118,7 +124,7 @@ fn say<E: Stream>(notices: &str, faults: &mut E)
 // Says why there is no answer, and tells how the command ends.
 fn give_up<E: Stream>(unanswered: &Unanswered, faults: &mut E) -> ExitStatus
     ensures status { result ≡ NoOutcome }
-    ensures told { AddsOrFails (E.may_have_failed faults.new) (E.contents faults.old)
+    ensures reported { AddsOrFails (E.may_have_failed faults.new) (E.contents faults.old)
         (E.contents faults.new) (line_of (unanswered_text unanswered.now)) }
 {
     let _ = complain(faults, unanswered.as_str(), "");

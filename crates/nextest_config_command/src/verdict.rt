@@ -5,11 +5,11 @@ ghost use Rattle.semver.specs.Identifiers.{parts_of};
 ghost use Rattle.nextest_config.specs.NextestVersion.{experimental_of, verdict_of, place_of};
 ghost use Rattle.nextest_config_command.specs.Asked.{SomeAsks};
 ghost use Rattle.nextest_config_command.specs.Found.{all_files, files_of};
-ghost use Rattle.nextest_config_command.specs.Verdict.{IsAskedFor, IsShortfallTold, IsVerdictFinding, IsVerdictTold, overridden_text, role_text, shortfall_message, shortfall_of, shortfall_severity};
+ghost use Rattle.nextest_config_command.specs.Verdict.{IsAskedFor, IsShortfallReported, IsVerdictFinding, IsVerdictReported, overridden_text, role_text, shortfall_message, shortfall_of, shortfall_severity};
 
 use crate::asked::asked_version;
 use crate::parsed_file::ParsedFiles;
-use crate::request::Check;
+use crate::request::CheckTask;
 use nextest_config::nextest_version::{
     ExperimentalConfig, NextestVersionEval, UnmetVersion, VersionRole,
 };
@@ -23,13 +23,13 @@ use std::alloc::{AllocError, Global};
 /// as a finding where the version is asked.
 pub(crate) fn verdict_text(
     alloc: Global,
-    check: &Check,
+    check: &CheckTask,
     files: &ParsedFiles<'_>,
     eval: &NextestVersionEval,
     experimental: &ExperimentalConfig,
 ) -> Result<String, AllocError>
     requires { IsAskedFor (all_files (files_of files.now)) (verdict_of eval.now) }
-    ensures { IfOk result (λ text. IsVerdictTold check.now.lint.format
+    ensures { IfOk result (λ text. IsVerdictReported check.now.lint.format
         (all_files (files_of files.now)) (parts_of check.now.current) (verdict_of eval.now)
         (experimental_of experimental.now) (string_bytes text)) }
 {
@@ -73,10 +73,10 @@ fn unmet_text(
 ) -> Result<String, AllocError>
     requires { SomeAsks (all_files (files_of files.now)) unmet.now.role
         (place_of unmet.now.source.now) }
-    ensures { IfOk result (λ text. IsShortfallTold format (all_files (files_of files.now))
+    ensures { IfOk result (λ text. IsShortfallReported format (all_files (files_of files.now))
         unmet.now.role (shortfall_of unmet.now) (string_bytes text)) }
 {
-    let asked = asked_version(alloc, files, unmet)?;
+    let asked = asked_version(alloc, files, unmet.role, unmet.source)?;
     let key = PathText(asked.path.as_slice()).to_string(alloc)?;
     let message = unmet_message(alloc, unmet)?;
     let diagnostic = Diagnostic {

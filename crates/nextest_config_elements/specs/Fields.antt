@@ -15,25 +15,25 @@ use Rattle.nextest_config_elements.specs.declared.field.Parts.{fold-Parts}
 use Rattle.nextest_config_elements.specs.declared.field.Parts.TheOpen.{Field-F, Parts-F}
 use Rattle.nextest_config_elements.specs.declared.field.Shape.{Shape}
 
--- what stands for a key that is absent: this value, if any, which the reader of its table takes;
--- what the profile inherits, or else this value, if any, which nextest sets itself; or, in an
--- override, what its profile has
+-- what stands for a key that is absent: its default, if it has one, which the reader of its table
+-- takes; what the profile inherits, or else this value, if any, which nextest sets itself; or, in
+-- an override, what its profile has
 pub data Absent : Type 0 where
   taken : Option Data → Absent
   inherited : Option Data → Absent
   of_profile : Absent
 
--- nothing stands for a key that is absent
-abbrev pub nothing_taken : Absent
-nothing_taken = taken None
+-- a key without a default
+abbrev pub no_default : Absent
+no_default = taken None
 
--- the reader of a table takes this text for a key that is absent
-abbrev pub text_taken : List ℕ → Absent
-text_taken text = taken (Some (string text))
+-- a default that is a text
+abbrev pub default_text : List ℕ → Absent
+default_text text = taken (Some (string text))
 
 -- nextest sets this text itself, where no profile that counts has the key
-abbrev pub text_inherited : List ℕ → Absent
-text_inherited text = inherited (Some (string text))
+abbrev pub inherited_text : List ℕ → Absent
+inherited_text text = inherited (Some (string text))
 
 -- a key: what its value has to be, but for what stands in it; how grave a fault of that is; whether
 -- a table has to have the key; and what stands for it where it is absent
@@ -44,34 +44,32 @@ pub record KeyRule : Type 0 where
   pub required : Bool
   pub absent : Absent
 
--- a key that a table may have, for which this stands where it is absent
-abbrev pub allowed_or : List ℕ → Shape → FaultSeverity → Absent → KeyRule
-allowed_or key shape severity absent = record {
+-- the rule of a key that a table has to have, or may have
+abbrev pub key_rule : Bool → List ℕ → Shape → FaultSeverity → Absent → KeyRule
+key_rule required key shape severity absent = record {
   key = key;
   shape = shape;
   severity = severity;
-  required = false;
+  required = required;
   absent = absent;
 }
 
+-- a key that a table may have, for which this stands where it is absent
+abbrev pub allowed_or : List ℕ → Shape → FaultSeverity → Absent → KeyRule
+allowed_or = key_rule false
+
 -- a key that a table may have, for which nothing stands where it is absent
 abbrev pub allowed : List ℕ → Shape → FaultSeverity → KeyRule
-allowed key shape severity = allowed_or key shape severity nothing_taken
+allowed key shape severity = allowed_or key shape severity no_default
 
 -- a key that a table has to have; where a value of another kind stands in the place of the table,
 -- this stands for it
 abbrev pub needed_or : List ℕ → Shape → FaultSeverity → Absent → KeyRule
-needed_or key shape severity absent = record {
-  key = key;
-  shape = shape;
-  severity = severity;
-  required = true;
-  absent = absent;
-}
+needed_or = key_rule true
 
 -- a key that a table has to have
 abbrev pub needed : List ℕ → Shape → FaultSeverity → KeyRule
-needed key shape severity = needed_or key shape severity nothing_taken
+needed key shape severity = needed_or key shape severity no_default
 
 -- how grave a fault is in a value whose own faults are as grave as the outer one: in what is known
 -- from nextest's documentation alone, nothing is graver than that
@@ -99,6 +97,10 @@ mutual
   pub data Fields : Type 0 where
     no_fields : Fields
     field : KeyRule → Parts → Fields → Fields
+
+-- a key in whose value nothing stands that is judged by itself, put before others
+abbrev pub plain : KeyRule → Fields → Fields
+plain rule rest = field rule nothing rest
 
 -- the keys of fields, in their order
 abbrev pub field_words : Fields → List (List ℕ)

@@ -4,7 +4,7 @@ use Rattle.std.proofs.Common.{rules}
 use Rattle.toml.specs.Data.{boolean, Data, Members, as_table}
 use Rattle.nextest_config_values.specs.Helpers.Paths.{joined_path}
 use Rattle.nextest_config_values.specs.Read.{bool_reading, inner, kind, made_of, optional, Reading, text_reading, then, value_of, word_reading, wrong_kind}
-use Rattle.nextest_config_elements.specs.Fields.{allowed_or, field, Fields, inherited, no_fields, nothing, text_inherited}
+use Rattle.nextest_config_elements.specs.Fields.{allowed_or, Fields, inherited, inherited_text, no_fields, nothing, plain}
 use Rattle.nextest_config_elements.specs.ReportSkipPolicy.{report_skip_reading}
 use Rattle.nextest_config_elements.specs.declared.field.FaultSeverity.TheVariants.{Error, ErrorUnlessConverted}
 use Rattle.nextest_config_elements.specs.declared.field.Shape.TheVariants as shapes
@@ -97,28 +97,28 @@ pub record JunitTable : Type 0 where
   pub report_skipped : Option ReportSkipPolicy
   pub flaky_fail_status : Option JunitFlakyFailStatus
 
--- the table that says this, key by key
-abbrev pub table_of_keys : Option (List ℕ) → Option (List ℕ) → Option Bool → Option Bool
+-- the table that says this: its path and its name, whether it has the outputs, and the rest
+abbrev pub table_of_keys : Option (List ℕ) × Option (List ℕ) → Option Bool × Option Bool
     → Option ReportSkipPolicy → Option JunitFlakyFailStatus → JunitTable
-table_of_keys path report_name store_success_output store_failure_output report_skipped status =
-    record {
-      path = path;
-      report_name = report_name;
-      store_success_output = store_success_output;
-      store_failure_output = store_failure_output;
-      report_skipped = report_skipped;
-      flaky_fail_status = status;
-    }
+table_of_keys texts outputs skipped status = record {
+  path = texts.0;
+  report_name = texts.1;
+  store_success_output = outputs.0;
+  store_failure_output = outputs.1;
+  report_skipped = skipped;
+  flaky_fail_status = status;
+}
 
 -- what a table that was read says
 abbrev pub junit_of : JunitImpl → JunitTable
-junit_of junit = table_of_keys (option_map string_bytes junit.path)
-    (option_map string_bytes junit.report_name) junit.store_success_output
-    junit.store_failure_output junit.report_skipped junit.flaky_fail_status
+junit_of junit =
+    table_of_keys (option_map string_bytes junit.path, option_map string_bytes junit.report_name)
+    (junit.store_success_output, junit.store_failure_output) junit.report_skipped
+    junit.flaky_fail_status
 
 -- the table that says nothing of a report
 abbrev pub empty_table : JunitTable
-empty_table = table_of_keys None None None None None None
+empty_table = table_of_keys (None, None) (None, None) None None
 
 -- the key of where the report is written to
 abbrev pub path_key : List ℕ
@@ -147,26 +147,32 @@ flaky_fail_status_key = codes "flaky-fail-status"
 -- the fields of the table `junit`
 abbrev pub junit_fields : Fields
 junit_fields =
-    field (allowed_or path_key shapes.Text ErrorUnlessConverted (inherited None)) nothing
-    (field (allowed_or report_name_key shapes.Text ErrorUnlessConverted
-    (text_inherited (codes "nextest-run"))) nothing
-    (field (allowed_or store_success_output_key shapes.Boolean ErrorUnlessConverted
-    (inherited (Some (boolean false)))) nothing
-    (field (allowed_or store_failure_output_key shapes.Boolean ErrorUnlessConverted
-    (inherited (Some (boolean true)))) nothing
-    (field (allowed_or report_skipped_key shapes.ReportSkipPolicy Error
-    (text_inherited (codes "none"))) nothing
-    (field (allowed_or flaky_fail_status_key shapes.FlakyFailStatus Error
-    (text_inherited (codes "failure"))) nothing no_fields)))))
+    plain (allowed_or path_key shapes.Text ErrorUnlessConverted (inherited None))
+    (plain (allowed_or report_name_key shapes.Text ErrorUnlessConverted
+    (inherited_text (codes "nextest-run")))
+    (plain (allowed_or store_success_output_key shapes.Boolean ErrorUnlessConverted
+    (inherited (Some (boolean false))))
+    (plain (allowed_or store_failure_output_key shapes.Boolean ErrorUnlessConverted
+    (inherited (Some (boolean true))))
+    (plain (allowed_or report_skipped_key shapes.ReportSkipPolicy Error
+    (inherited_text (codes "none")))
+    (plain (allowed_or flaky_fail_status_key shapes.FlakyFailStatus Error
+    (inherited_text (codes "failure"))) no_fields)))))
+
+-- the keys of `junit` after the outputs, in turn
+abbrev pub keys_after_outputs : Option (List ℕ) → Option (List ℕ) → Option Bool → Option Bool
+    → Reading Members JunitTable
+keys_after_outputs path report_name success failure =
+    then (optional report_skipped_key report_skip_reading) (λ skipped.
+    made_of (table_of_keys (path, report_name) (success, failure) skipped)
+    (optional flaky_fail_status_key flaky_fail_reading))
 
 -- the keys of `junit` after the path and the name, in turn
 abbrev pub keys_after_texts : Option (List ℕ) → Option (List ℕ) → Reading Members JunitTable
 keys_after_texts path report_name =
-    then (optional store_success_output_key bool_reading) (λ store_success_output.
-    then (optional store_failure_output_key bool_reading) (λ store_failure_output.
-    then (optional report_skipped_key report_skip_reading) (λ report_skipped.
-    made_of (table_of_keys path report_name store_success_output store_failure_output
-    report_skipped) (optional flaky_fail_status_key flaky_fail_reading))))
+    then (optional store_success_output_key bool_reading) (λ success.
+    then (optional store_failure_output_key bool_reading)
+    (keys_after_outputs path report_name success))
 
 -- the keys of `junit` in turn, each of which may be missing; other keys don't count
 abbrev pub junit_table : Reading Members JunitTable

@@ -3,7 +3,7 @@
 -- this one.
 use Rattle.std.specs.Prelude.{ℕ, pos, true, false, List, [], ◌∷◌, codes, Some, None}
 use Rattle.toml.specs.Data.{array, boolean, integer, no_items}
-use Rattle.nextest_config_elements.specs.Fields.{allowed, allowed_or, elements, elements_or_fields, features, field, Fields, fields, inherited, names, needed, no_fields, nothing, of_profile, Parts, taken, text_inherited, text_taken, versions}
+use Rattle.nextest_config_elements.specs.Fields.{allowed, allowed_or, default_text, elements, elements_or_fields, features, field, Fields, fields, inherited, inherited_text, names, needed, no_fields, nothing, of_profile, Parts, plain, taken, versions}
 use Rattle.nextest_config_elements.specs.Junit.{junit_fields}
 use Rattle.nextest_config_elements.specs.LeakTimeout.{leak_timeout_fields}
 use Rattle.nextest_config_elements.specs.MaxFail.{fail_fast_fields}
@@ -23,11 +23,7 @@ use Rattle.nextest_config_elements.specs.declared.word_list.WordList.TheVariants
 -- keys that are known, and of whose values nothing is said
 abbrev pub unread : List (List ℕ) → Fields
 unread [] = no_fields
-unread (key ∷ keys) = field (allowed key Any Warning) nothing (unread keys)
-
--- what stands in an array of texts
-abbrev pub each_text : Parts
-each_text = elements Text nothing
+unread (key ∷ keys) = plain (allowed key Any Warning) (unread keys)
 
 -- a table that defines what it stands for by its name
 abbrev pub definition : NamedKind → Shape
@@ -43,152 +39,148 @@ wrapper_script = Definition (Script Wrapper)
 -- the fields of the table `bench` of a profile
 abbrev pub bench_fields : Fields
 bench_fields =
-    field (allowed_or (codes "slow-timeout") SlowTimeout Error
-    (text_inherited (codes "30y"))) (fields slow_timeout_fields)
-    (field (allowed_or (codes "global-timeout") Duration Error
-    (text_inherited (codes "30y"))) nothing no_fields)
+    field (allowed_or (codes "slow-timeout") SlowTimeout Error (inherited_text (codes "30y")))
+    (fields slow_timeout_fields)
+    (plain (allowed_or (codes "global-timeout") Duration Error (inherited_text (codes "30y")))
+    no_fields)
 
 -- the fields of the table `junit` of an override
 abbrev pub override_junit_fields : Fields
 override_junit_fields =
-    field (allowed_or (codes "store-success-output") Boolean ErrorUnlessConverted
-    of_profile) nothing
-    (field (allowed_or (codes "store-failure-output") Boolean ErrorUnlessConverted
-    of_profile) nothing
-    (field (allowed_or (codes "flaky-fail-status") FlakyFailStatus Error of_profile) nothing
+    plain (allowed_or (codes "store-success-output") Boolean ErrorUnlessConverted of_profile)
+    (plain (allowed_or (codes "store-failure-output") Boolean ErrorUnlessConverted of_profile)
+    (plain (allowed_or (codes "flaky-fail-status") FlakyFailStatus Error of_profile)
     (unread (codes "path" ∷ codes "report-name" ∷ codes "report-skipped" ∷ []))))
 
 -- the fields of the table `platform` of an override, or of a rule for scripts
 abbrev pub platform_fields : Fields
 platform_fields =
-    field (allowed (codes "host") PlatformText Warning) nothing
-    (field (allowed (codes "target") PlatformText Warning) nothing no_fields)
+    plain (allowed (codes "host") PlatformText Warning)
+    (plain (allowed (codes "target") PlatformText Warning) no_fields)
+
+-- what stands in an array of texts
+abbrev pub each_text : Parts
+each_text = elements Text nothing
 
 -- the fields of an override
 abbrev pub override_fields : Fields
 override_fields =
-    field (allowed_or (codes "priority") Priority ErrorUnlessConverted
-    (taken (Some (integer (pos 0))))) nothing
-    (field (allowed_or (codes "threads-required") ThreadsRequired Error of_profile) nothing
+    plain (allowed_or (codes "priority") Priority ErrorUnlessConverted
+    (taken (Some (integer (pos 0)))))
+    (plain (allowed_or (codes "threads-required") ThreadsRequired Error of_profile)
     (field (allowed_or (codes "retries") Retries Error of_profile) retries_parts
-    (field (allowed_or (codes "flaky-result") FlakyResult Error of_profile) nothing
-    (field (allowed_or (codes "slow-timeout") SlowTimeout Error
-    of_profile) (fields slow_timeout_fields)
-    (field (allowed_or (codes "leak-timeout") LeakTimeout Error
-    of_profile) (fields leak_timeout_fields)
+    (plain (allowed_or (codes "flaky-result") FlakyResult Error of_profile)
+    (field (allowed_or (codes "slow-timeout") SlowTimeout Error of_profile)
+    (fields slow_timeout_fields)
+    (field (allowed_or (codes "leak-timeout") LeakTimeout Error of_profile)
+    (fields leak_timeout_fields)
     (field (allowed_or (codes "junit") Table Error of_profile) (fields override_junit_fields)
-    (field (allowed (codes "filter") Filter Warning) nothing
+    (plain (allowed (codes "filter") Filter Warning)
     (field (allowed (codes "platform") Platform Warning) (fields platform_fields)
-    (field (allowed_or (codes "default-filter") DefaultFilter Warning of_profile) nothing
-    (field (allowed_or (codes "test-group") (Reference (Definition Group)) Warning
-    (text_taken (codes "@global"))) nothing
+    (plain (allowed_or (codes "default-filter") DefaultFilter Warning of_profile)
+    (plain (allowed_or (codes "test-group") (Reference (Definition Group)) Warning
+    (default_text (codes "@global")))
     (field (allowed_or (codes "run-extra-args") Texts Warning of_profile) each_text
-    (field (allowed_or (codes "success-output") (Word TestOutputDisplay) Warning of_profile) nothing
-    (field (allowed_or (codes "failure-output") (Word TestOutputDisplay) Warning of_profile) nothing
+    (plain (allowed_or (codes "success-output") (Word TestOutputDisplay) Warning of_profile)
+    (plain (allowed_or (codes "failure-output") (Word TestOutputDisplay) Warning of_profile)
     (unread (codes "bench" ∷ [])))))))))))))))
 
 -- the fields of a rule that says for which tests scripts run
 abbrev pub script_rule_fields : Fields
 script_rule_fields =
-    field (allowed (codes "filter") Filter Warning) nothing
+    plain (allowed (codes "filter") Filter Warning)
     (field (allowed (codes "platform") Platform Warning) (fields platform_fields)
     (field (allowed_or (codes "setup") (References setup_script) Warning
     (taken (Some (array no_items)))) (elements (Reference setup_script) nothing)
-    (field (allowed (codes "list-wrapper") (Reference wrapper_script) Warning) nothing
-    (field (allowed (codes "run-wrapper") (Reference wrapper_script) Warning) nothing
+    (plain (allowed (codes "list-wrapper") (Reference wrapper_script) Warning)
+    (plain (allowed (codes "run-wrapper") (Reference wrapper_script) Warning)
     no_fields))))
 
 -- the fields of what names files that an archive has, too
 abbrev pub archive_include_fields : Fields
 archive_include_fields =
-    field (needed (codes "path") RelativePath Warning) nothing
-    (field (needed (codes "relative-to") (Word ArchiveRelativeTo) Warning) nothing
-    (field (allowed_or (codes "depth") Depth Warning (taken (Some (integer (pos 16))))) nothing
-    (field (allowed_or (codes "on-missing") (Word ArchiveOnMissing) Warning
-    (text_taken (codes "warn"))) nothing no_fields)))
+    plain (needed (codes "path") RelativePath Warning)
+    (plain (needed (codes "relative-to") (Word ArchiveRelativeTo) Warning)
+    (plain (allowed_or (codes "depth") Depth Warning (taken (Some (integer (pos 16)))))
+    (plain (allowed_or (codes "on-missing") (Word ArchiveOnMissing) Warning
+    (default_text (codes "warn"))) no_fields)))
 
 -- the fields of the table `archive` of a profile
 abbrev pub archive_fields : Fields
 archive_fields =
-    field (allowed_or (codes "include") Array Warning
-    (taken (Some (array no_items)))) (elements Table (fields archive_include_fields))
+    field (allowed_or (codes "include") Array Warning (taken (Some (array no_items))))
+    (elements Table (fields archive_include_fields))
     no_fields
 
 -- the fields of a profile
 abbrev pub profile_fields : Fields
 profile_fields =
-    field (allowed_or (codes "retries") Retries Error
-    (inherited (Some (integer (pos 0))))) retries_parts
-    (field (allowed_or (codes "flaky-result") FlakyResult Error
-    (text_inherited (codes "pass"))) nothing
-    (field (allowed_or (codes "threads-required") ThreadsRequired Error
-    (inherited (Some (integer (pos 1))))) nothing
-    (field (allowed_or (codes "fail-fast") FailFast Error
-    (inherited (Some (boolean true)))) (fields fail_fast_fields)
-    (field (allowed_or (codes "slow-timeout") SlowTimeout Error
-    (text_inherited (codes "60s"))) (fields slow_timeout_fields)
-    (field (allowed_or (codes "leak-timeout") LeakTimeout Error
-    (text_inherited (codes "200ms"))) (fields leak_timeout_fields)
-    (field (allowed_or (codes "global-timeout") Duration Error
-    (text_inherited (codes "30y"))) nothing
+    field (allowed_or (codes "retries") Retries Error (inherited (Some (integer (pos 0)))))
+    retries_parts
+    (plain (allowed_or (codes "flaky-result") FlakyResult Error (inherited_text (codes "pass")))
+    (plain (allowed_or (codes "threads-required") ThreadsRequired Error
+    (inherited (Some (integer (pos 1)))))
+    (field (allowed_or (codes "fail-fast") FailFast Error (inherited (Some (boolean true))))
+    (fields fail_fast_fields)
+    (field (allowed_or (codes "slow-timeout") SlowTimeout Error (inherited_text (codes "60s")))
+    (fields slow_timeout_fields)
+    (field (allowed_or (codes "leak-timeout") LeakTimeout Error (inherited_text (codes "200ms")))
+    (fields leak_timeout_fields)
+    (plain (allowed_or (codes "global-timeout") Duration Error (inherited_text (codes "30y")))
     (field (allowed_or (codes "junit") Table Error (inherited None)) (fields junit_fields)
     (field (allowed_or (codes "bench") Table Error (inherited None)) (fields bench_fields)
-    (field (allowed_or (codes "overrides") Array Error
-    (inherited None)) (elements (RuledTable rules.Override) (fields override_fields))
-    (field (allowed_or (codes "inherits") (Reference Parent) Warning
-    (text_taken (codes "default"))) nothing
-    (field (allowed_or (codes "default-filter") DefaultFilter Warning
-    (text_inherited (codes "all()"))) nothing
-    (field (allowed_or (codes "test-threads") Threads Warning
-    (text_inherited (codes "num-cpus"))) nothing
-    (field (allowed_or (codes "run-extra-args") Texts Warning
-    (inherited (Some (array no_items)))) each_text
-    (field (allowed_or (codes "status-level") (Word StatusLevel) Warning
-    (text_inherited (codes "pass"))) nothing
-    (field (allowed_or (codes "final-status-level") (Word FinalStatusLevel) Warning
-    (text_inherited (codes "flaky"))) nothing
-    (field (allowed_or (codes "success-output") (Word TestOutputDisplay) Warning
-    (text_inherited (codes "never"))) nothing
-    (field (allowed_or (codes "failure-output") (Word TestOutputDisplay) Warning
-    (text_inherited (codes "immediate"))) nothing
-    (field (allowed_or (codes "scripts") Array Warning
-    (inherited None)) (elements (RuledTable rules.ScriptRule) (fields script_rule_fields))
+    (field (allowed_or (codes "overrides") Array Error (inherited None))
+    (elements (RuledTable rules.Override) (fields override_fields))
+    (plain (allowed_or (codes "inherits") (Reference Parent) Warning
+    (default_text (codes "default")))
+    (plain (allowed_or (codes "default-filter") DefaultFilter Warning
+    (inherited_text (codes "all()")))
+    (plain (allowed_or (codes "test-threads") Threads Warning (inherited_text (codes "num-cpus")))
+    (field (allowed_or (codes "run-extra-args") Texts Warning (inherited (Some (array no_items))))
+    each_text
+    (plain (allowed_or (codes "status-level") (Word StatusLevel) Warning
+    (inherited_text (codes "pass")))
+    (plain (allowed_or (codes "final-status-level") (Word FinalStatusLevel) Warning
+    (inherited_text (codes "flaky")))
+    (plain (allowed_or (codes "success-output") (Word TestOutputDisplay) Warning
+    (inherited_text (codes "never")))
+    (plain (allowed_or (codes "failure-output") (Word TestOutputDisplay) Warning
+    (inherited_text (codes "immediate")))
+    (field (allowed_or (codes "scripts") Array Warning (inherited None))
+    (elements (RuledTable rules.ScriptRule) (fields script_rule_fields))
     (field (allowed_or (codes "archive") Table Warning (inherited None)) (fields archive_fields)
     no_fields)))))))))))))))))))
 
 -- the fields of the table `store`
 abbrev pub store_fields : Fields
 store_fields =
-    field (allowed_or (codes "dir") Text Warning
-    (text_taken (codes "target/nextest"))) nothing no_fields
+    plain (allowed_or (codes "dir") Text Warning (default_text (codes "target/nextest"))) no_fields
 
 -- the fields of a test group
 abbrev pub group_fields : Fields
 group_fields =
-    field (needed (codes "max-threads") Threads Warning) nothing no_fields
+    plain (needed (codes "max-threads") Threads Warning) no_fields
 
 -- the fields of the table `nextest-version`
 abbrev pub version_fields : Fields
 version_fields =
-    field (allowed (codes "required") VersionText Error) nothing
-    (field (allowed (codes "recommended") VersionText Error) nothing no_fields)
+    plain (allowed (codes "required") VersionText Error)
+    (plain (allowed (codes "recommended") VersionText Error) no_fields)
 
 -- the fields of the table `experimental`
 abbrev pub feature_fields : Fields
 feature_fields =
-    field (allowed_or (codes "setup-scripts") Boolean Error (taken (Some (boolean false)))) nothing
-    (field (allowed_or (codes "wrapper-scripts") Boolean Error
-    (taken (Some (boolean false)))) nothing
-    (field (allowed_or (codes "benchmarks") Boolean Error
-    (taken (Some (boolean false)))) nothing no_fields))
+    plain (allowed_or (codes "setup-scripts") Boolean Error (taken (Some (boolean false))))
+    (plain (allowed_or (codes "wrapper-scripts") Boolean Error (taken (Some (boolean false))))
+    (plain (allowed_or (codes "benchmarks") Boolean Error (taken (Some (boolean false))))
+    no_fields))
 
 -- the fields of the command of a script, as a table
 abbrev pub command_fields : Fields
 command_fields =
     field (needed (codes "command-line") CommandLine Warning) (elements Scalar nothing)
     (field (allowed (codes "env") Table Warning) (names Scalar nothing)
-    (field (allowed_or (codes "relative-to") Text Warning
-    (text_taken (codes "none"))) nothing no_fields))
+    (plain (allowed_or (codes "relative-to") Text Warning (default_text (codes "none"))) no_fields))
 
 -- what stands in the command of a script
 abbrev pub command_parts : Parts
@@ -197,10 +189,9 @@ command_parts = elements_or_fields Scalar command_fields
 -- the fields of the table `junit` of a script
 abbrev pub script_junit_fields : Fields
 script_junit_fields =
-    field (allowed_or (codes "store-success-output") Boolean Warning
-    (taken (Some (boolean true)))) nothing
-    (field (allowed_or (codes "store-failure-output") Boolean Warning
-    (taken (Some (boolean true)))) nothing no_fields)
+    plain (allowed_or (codes "store-success-output") Boolean Warning (taken (Some (boolean true))))
+    (plain (allowed_or (codes "store-failure-output") Boolean Warning (taken (Some (boolean true))))
+    no_fields)
 
 -- the fields of a script that sets up tests
 abbrev pub setup_script_fields : Fields
@@ -208,10 +199,8 @@ setup_script_fields =
     field (needed (codes "command") Command Warning) command_parts
     (field (allowed (codes "slow-timeout") SlowTimeout Error) (fields slow_timeout_fields)
     (field (allowed (codes "leak-timeout") LeakTimeout Error) (fields leak_timeout_fields)
-    (field (allowed_or (codes "capture-stdout") Boolean Warning
-    (taken (Some (boolean false)))) nothing
-    (field (allowed_or (codes "capture-stderr") Boolean Warning
-    (taken (Some (boolean false)))) nothing
+    (plain (allowed_or (codes "capture-stdout") Boolean Warning (taken (Some (boolean false))))
+    (plain (allowed_or (codes "capture-stderr") Boolean Warning (taken (Some (boolean false))))
     (field (allowed (codes "junit") Table Warning) (fields script_junit_fields) no_fields)))))
 
 -- scripts that set up tests, by their names
@@ -222,8 +211,8 @@ setup_scripts = names (definition (Script Setup)) (fields setup_script_fields)
 abbrev pub wrapper_script_fields : Fields
 wrapper_script_fields =
     field (needed (codes "command") Command Warning) command_parts
-    (field (allowed_or (codes "target-runner") (Word TargetRunner) Warning
-    (text_taken (codes "ignore"))) nothing no_fields)
+    (plain (allowed_or (codes "target-runner") (Word TargetRunner) Warning
+    (default_text (codes "ignore"))) no_fields)
 
 -- the fields of the table `scripts`
 abbrev pub scripts_fields : Fields

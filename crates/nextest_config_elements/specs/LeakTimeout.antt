@@ -6,7 +6,7 @@ use Rattle.toml.specs.Data.{Data, Members, as_str}
 use Rattle.nextest_config_values.specs.Duration.{duration_reading}
 use Rattle.nextest_config_values.specs.Read.{kind, made_of, or_default, Reading, required, then, value_of, word_reading}
 use Rattle.nextest_config_elements.specs.Durations.{milliseconds}
-use Rattle.nextest_config_elements.specs.Fields.{allowed, allowed_or, field, Fields, needed, no_fields, nothing, text_taken}
+use Rattle.nextest_config_elements.specs.Fields.{allowed_or, default_text, Fields, needed, no_fields, plain}
 use Rattle.nextest_config_elements.specs.FromTable.{set_by_table}
 use Rattle.nextest_config_elements.specs.declared.field.FaultSeverity.TheVariants.{Error}
 use Rattle.nextest_config_elements.specs.declared.field.Shape.TheVariants as shapes
@@ -19,13 +19,13 @@ pub record LeakTimeoutRecord : Type 0 where
   pub period : ℕ
   pub result : LeakTimeoutResult
 
+-- what a timeout of leaky tests says
+abbrev pub leak_timeout_of : LeakTimeout → LeakTimeoutRecord
+leak_timeout_of t = record { period = as_nanos t.period; result = t.result }
+
 -- a timeout of this period with this result
 abbrev pub leak_timeout : ℕ → LeakTimeoutResult → LeakTimeoutRecord
 leak_timeout period result = record { period = period; result = result }
-
--- what a timeout of leaky tests says
-abbrev pub leak_timeout_of : LeakTimeout → LeakTimeoutRecord
-leak_timeout_of t = leak_timeout (as_nanos t.period) t.result
 
 -- the timeout of leaky tests where none is given
 abbrev pub default_leak_timeout : LeakTimeoutRecord
@@ -57,9 +57,9 @@ result_key = codes "result"
 -- the fields of the table `leak-timeout`
 abbrev pub leak_timeout_fields : Fields
 leak_timeout_fields =
-    field (needed period_key shapes.ShortDuration Error) nothing
-    (field (allowed_or result_key shapes.LeakTimeoutResult Error
-    (text_taken (codes "pass"))) nothing no_fields)
+    plain (needed period_key shapes.ShortDuration Error)
+    (plain (allowed_or result_key shapes.LeakTimeoutResult Error (default_text (codes "pass")))
+    no_fields)
 
 -- the table `leak-timeout` has a period, and may have a result; other keys don't count
 abbrev pub leak_timeout_table : Reading Members LeakTimeoutRecord

@@ -14,8 +14,8 @@ module _ {D X : Type 0} (reading : Reading D X) (value : D) where
 
     by_meaning : (x : X) → reading.means value x → IsDecided (Holds x) → IsDecided IsMeantSuch
     by_meaning x meant (inl holds) = inl (x, meant, holds)
-    by_meaning x meant (inr not_so) =
-        inr (λ such. not_so (subst Holds (reading.law.one_meaning value such.0 x such.1 meant) such.2))
+    by_meaning x meant (inr not_so) = inr (λ such.
+        not_so (subst Holds (reading.law.one_meaning value such.0 x such.1 meant) such.2))
 
     by_law : HasMeaningOrFault (reading.means value) (reading.faults value) → IsDecided IsMeantSuch
     by_law (inl (x, meant)) = by_meaning x meant (decided x)

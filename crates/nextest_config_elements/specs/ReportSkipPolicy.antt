@@ -11,15 +11,15 @@ use Rattle.nextest_config_elements.specs.declared.report_skip_policy.ReportSkipP
 
 -- ---- the words of the policies
 
--- the policies of `report-skipped`, in the order of their words
-abbrev pub report_skip_policies : List ReportSkipPolicy
-report_skip_policies = policies.None ∷ policies.Ignored ∷ policies.All ∷ []
-
 -- the word of a policy of `report-skipped`
 abbrev pub report_skip_word : ReportSkipPolicy → List ℕ
 report_skip_word policies.None = codes "none"
 report_skip_word policies.Ignored = codes "ignored"
 report_skip_word policies.All = codes "all"
+
+-- the policies of `report-skipped`, in the order of their words
+abbrev pub report_skip_policies : List ReportSkipPolicy
+report_skip_policies = policies.None ∷ policies.Ignored ∷ policies.All ∷ []
 
 pub report_skip_reads_back : (policy : ReportSkipPolicy)
     → value_of report_skip_word report_skip_policies (report_skip_word policy) ≡ Some policy

@@ -9,7 +9,7 @@ use Rattle.nextest_config_values.specs.Decisions.{below_decided, both_decided, I
 use Rattle.nextest_config_values.specs.Duration.{duration_reading}
 use Rattle.nextest_config_values.specs.Read.Plain.{u32_decided}
 use Rattle.nextest_config_values.specs.Read.{after_check, bool_reading, both, Check, count_zero, delay_zero, in_range, IsU32, jitter_without_delay, kind, made_of, max_delay_below_delay, max_delay_zero, only, optional, or_default, outside, Reading, required, rule, rule_check, then, u32_reading, value_of, word_reading}
-use Rattle.nextest_config_elements.specs.Fields.{allowed, allowed_or, by_backoff, field, Fields, needed, needed_or, no_fields, nothing, Parts, taken, text_taken}
+use Rattle.nextest_config_elements.specs.Fields.{allowed, allowed_or, by_backoff, default_text, Fields, key_rule, KeyRule, needed, needed_or, no_fields, nothing, Parts, plain, taken}
 use Rattle.nextest_config_elements.specs.FromTable.{set_by_table}
 use Rattle.nextest_config_elements.specs.UnknownKeysLaws.{keys_check}
 use Rattle.nextest_config_elements.specs.declared.field.FaultSeverity.TheVariants.{Error}
@@ -90,14 +90,14 @@ flaky_result_reading = word_reading flaky_results flaky_result_word flaky_result
 
 -- ---- the words of the kinds of backoff
 
--- the kinds of backoff, in the order of their words
-abbrev pub backoffs_in_order : List Backoff
-backoffs_in_order = backoffs.Fixed ∷ backoffs.Exponential ∷ []
-
 -- the word of a kind of backoff
 abbrev pub backoff_word : Backoff → List ℕ
 backoff_word backoffs.Fixed = codes "fixed"
 backoff_word backoffs.Exponential = codes "exponential"
+
+-- the kinds of backoff, in the order of their words
+abbrev pub backoffs_in_order : List Backoff
+backoffs_in_order = backoffs.Fixed ∷ backoffs.Exponential ∷ []
 
 pub backoff_reads_back : (backoff : Backoff)
     → value_of backoff_word backoffs_in_order (backoff_word backoff) ≡ Some backoff
@@ -130,32 +130,33 @@ abbrev pub keys_beside : Backoff → List (List ℕ)
 keys_beside backoffs.Fixed = count_key ∷ delay_key ∷ jitter_key ∷ []
 keys_beside backoffs.Exponential = count_key ∷ delay_key ∷ jitter_key ∷ max_delay_key ∷ []
 
+-- the rule of `delay`, in a table that has to have it, or may have it
+abbrev pub delay_rule : Bool → KeyRule
+delay_rule required = key_rule required delay_key shapes.Duration Error (default_text (codes "0s"))
+
+-- the fields up to `jitter`, with a rule for the delay, and others behind them
+abbrev pub up_to_jitter : KeyRule → Fields → Fields
+up_to_jitter delay rest =
+    plain (needed_or backoff_key shapes.Backoff Error (default_text (codes "fixed")))
+    (plain (needed count_key shapes.U32 Error)
+    (plain delay
+    (plain (allowed_or jitter_key shapes.Boolean Error (taken (Some (boolean false)))) rest)))
+
+-- the field of the greatest delay
+abbrev pub max_delay_fields : Fields
+max_delay_fields = plain (allowed max_delay_key shapes.Duration Error) no_fields
+
 -- the fields of a table with a fixed backoff
 abbrev pub fixed_fields : Fields
-fixed_fields =
-    field (needed_or backoff_key shapes.Backoff Error (text_taken (codes "fixed"))) nothing
-    (field (needed count_key shapes.U32 Error) nothing
-    (field (allowed_or delay_key shapes.Duration Error (text_taken (codes "0s"))) nothing
-    (field (allowed_or jitter_key shapes.Boolean Error
-    (taken (Some (boolean false)))) nothing no_fields)))
+fixed_fields = up_to_jitter (delay_rule false) no_fields
 
 -- the fields of a table with an exponential backoff
 abbrev pub exponential_fields : Fields
-exponential_fields =
-    field (needed_or backoff_key shapes.Backoff Error (text_taken (codes "fixed"))) nothing
-    (field (needed count_key shapes.U32 Error) nothing
-    (field (needed_or delay_key shapes.Duration Error (text_taken (codes "0s"))) nothing
-    (field (allowed_or jitter_key shapes.Boolean Error (taken (Some (boolean false)))) nothing
-    (field (allowed max_delay_key shapes.Duration Error) nothing no_fields))))
+exponential_fields = up_to_jitter (delay_rule true) max_delay_fields
 
 -- the fields of a table without a backoff, which may turn out to be either
 abbrev pub open_fields : Fields
-open_fields =
-    field (needed_or backoff_key shapes.Backoff Error (text_taken (codes "fixed"))) nothing
-    (field (needed count_key shapes.U32 Error) nothing
-    (field (allowed_or delay_key shapes.Duration Error (text_taken (codes "0s"))) nothing
-    (field (allowed_or jitter_key shapes.Boolean Error (taken (Some (boolean false)))) nothing
-    (field (allowed max_delay_key shapes.Duration Error) nothing no_fields))))
+open_fields = up_to_jitter (delay_rule false) max_delay_fields
 
 -- what stands in the table `retries`, by its backoff
 abbrev pub retries_parts : Parts

@@ -7,7 +7,7 @@ use Rattle.toml.specs.Data.{Data, Members, as_str}
 use Rattle.nextest_config_values.specs.Duration.{duration_reading}
 use Rattle.nextest_config_values.specs.Read.{count_reading, kind, made_of, only, optional, or_default, Reading, required, then, value_of, word_reading}
 use Rattle.nextest_config_elements.specs.Durations.{seconds}
-use Rattle.nextest_config_elements.specs.Fields.{allowed, allowed_or, field, Fields, needed, no_fields, nothing, text_taken}
+use Rattle.nextest_config_elements.specs.Fields.{allowed, allowed_or, default_text, Fields, needed, no_fields, plain}
 use Rattle.nextest_config_elements.specs.FromTable.{set_by_table}
 use Rattle.nextest_config_elements.specs.declared.field.FaultSeverity.TheVariants.{Error, ErrorUnlessConverted}
 use Rattle.nextest_config_elements.specs.declared.field.Shape.TheVariants as shapes
@@ -30,20 +30,6 @@ slow_timeout_of t = record {
   grace_period = as_nanos t.grace_period;
   on_timeout = t.on_timeout;
 }
-
--- the grace period where none is given, in nanoseconds
-abbrev pub default_grace_period : ℕ
-default_grace_period = seconds 10
-
--- a timeout of this period alone
-abbrev pub with_period : ℕ → SlowTimeoutRecord
-with_period period =
-    record {
-      period = period;
-      terminate_after = None;
-      grace_period = default_grace_period;
-      on_timeout = Fail;
-    }
 
 -- ---- the words of the results
 
@@ -70,6 +56,10 @@ period_key = codes "period"
 abbrev pub terminate_after_key : List ℕ
 terminate_after_key = codes "terminate-after"
 
+-- the grace period where none is given, in nanoseconds
+abbrev pub default_grace_period : ℕ
+default_grace_period = seconds 10
+
 -- the key of how long a test that is terminated has to end by itself
 abbrev pub grace_period_key : List ℕ
 grace_period_key = codes "grace-period"
@@ -81,11 +71,11 @@ on_timeout_key = codes "on-timeout"
 -- the fields of the table `slow-timeout`
 abbrev pub slow_timeout_fields : Fields
 slow_timeout_fields =
-    field (needed period_key shapes.Duration Error) nothing
-    (field (allowed terminate_after_key shapes.Count ErrorUnlessConverted) nothing
-    (field (allowed_or grace_period_key shapes.Duration Error (text_taken (codes "10s"))) nothing
-    (field (allowed_or on_timeout_key shapes.SlowTimeoutResult Error
-    (text_taken (codes "fail"))) nothing no_fields)))
+    plain (needed period_key shapes.Duration Error)
+    (plain (allowed terminate_after_key shapes.Count ErrorUnlessConverted)
+    (plain (allowed_or grace_period_key shapes.Duration Error (default_text (codes "10s")))
+    (plain (allowed_or on_timeout_key shapes.SlowTimeoutResult Error (default_text (codes "fail")))
+    no_fields)))
 
 -- the table `slow-timeout` has a period, and may have the rest; other keys don't count
 abbrev pub slow_timeout_table : Reading Members SlowTimeoutRecord
@@ -102,6 +92,16 @@ slow_timeout_table =
     (word_reading slow_timeout_results slow_timeout_word slow_timeout_reads_back)))))
 
 -- ---- the setting
+
+-- a timeout of this period alone
+abbrev pub with_period : ℕ → SlowTimeoutRecord
+with_period period =
+    record {
+      period = period;
+      terminate_after = None;
+      grace_period = default_grace_period;
+      on_timeout = Fail;
+    }
 
 -- a text means no timeout where it is empty; any other is a period alone
 abbrev pub slow_timeout_text : List ℕ → Reading Data (Option SlowTimeoutRecord)

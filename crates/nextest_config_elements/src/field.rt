@@ -47,6 +47,44 @@ impl Field {
     };
 }
 
+// A row: its key, its shape, its purpose, what it says besides, and what has the rest.
+macro_rules! row {
+    ($key:tt: $shape:expr, $purpose:ident $(, $name:ident: $value:expr)*; $rest:ident) => {
+        $crate::field::Field {
+            key: $key,
+            shape: $shape,
+            purpose: $crate::purpose::Purpose::$purpose,
+            $($name: $value,)*
+            ..$crate::field::Field::$rest
+        }
+    };
+}
+
+// The row of a key whose value a reader of nextest's takes.
+macro_rules! field {
+    ($($row:tt)*) => { $crate::field::row!($($row)*; READ) };
+}
+
+// The row of a key that is known from nextest's documentation alone.
+macro_rules! documented {
+    ($($row:tt)*) => { $crate::field::row!($($row)*; DOCUMENTED) };
+}
+
+// The row of profiles in an override: where its key is absent, what the profile has stands for it.
+macro_rules! of_profile {
+    ($field:ident) => {
+        $crate::field::Field {
+            absent: $crate::field::Absent::OfProfile,
+            ..$field
+        }
+    };
+}
+
+pub(crate) use documented;
+pub(crate) use field;
+pub(crate) use of_profile;
+pub(crate) use row;
+
 /// How grave a fault is.
 #[derive(Clone, Copy, Debug, PartialEq, Eq)]
 pub enum FaultSeverity {
@@ -61,7 +99,7 @@ pub enum FaultSeverity {
 /// What stands for a key that is absent.
 #[derive(Clone, Copy)]
 pub enum Absent {
-    /// This, which the reader of its table takes.
+    /// Its default, which the reader of its table takes.
     Taken(Literal),
     /// What the profile inherits, or else this, which nextest sets itself.
     Inherited(Literal),
@@ -191,6 +229,14 @@ pub enum Referent {
     Parent,
     /// What the file defines by a name.
     Definition(NamedKind),
+}
+
+impl Referent {
+    pub const TEST_GROUP: Referent = Referent::Definition(NamedKind::Group);
+
+    pub const SETUP_SCRIPT: Referent = Referent::Definition(NamedKind::SETUP_SCRIPT);
+
+    pub const WRAPPER_SCRIPT: Referent = Referent::Definition(NamedKind::WRAPPER_SCRIPT);
 }
 
 /// What stands in a value, where it is judged by itself.

@@ -5,9 +5,9 @@ ghost use Rattle.toml.specs.View.{table_view, view};
 ghost use Rattle.nextest_config_values.specs.Read.{RefusesBy};
 ghost use Rattle.nextest_config_elements.specs.Junit.{default_of, empty_table, flaky_fail_reads_back, flaky_fail_statuses, flaky_fail_word, HasText, IsFirstMissing, junit_of, junit_reading, junit_table, JunitTable, report_in, report_of, SaysAll, settings_of};
 
+use crate::field::Absent::Inherited;
 use crate::field::FaultSeverity::ErrorUnlessConverted;
-use crate::field::{Absent, Field, Literal, Shape};
-use crate::purpose::Purpose;
+use crate::field::{Field, Literal, Shape, field};
 use crate::report_skip_policy::ReportSkipPolicy;
 use nextest_config_values::helpers::join_path;
 use nextest_config_values::read::{FromToml, ValueFault, Word, optional};
@@ -266,65 +266,19 @@ impl Default for JunitImpl {
 impl JunitImpl {
     /// The fields of the table `junit`.
     pub const FIELDS: &'static [Field] = &[
-        Field {
-            key: PATH_KEY,
-            shape: Shape::Text,
-            severity: ErrorUnlessConverted,
-            absent: Absent::Inherited(Literal::Nothing),
-            purpose: Purpose::JunitPath,
-            ..Field::READ
-        },
-        Field {
-            key: REPORT_NAME_KEY,
-            shape: Shape::Text,
-            severity: ErrorUnlessConverted,
-            absent: Absent::Inherited(Literal::Text("nextest-run")),
-            purpose: Purpose::JunitReportName,
-            ..Field::READ
-        },
-        Field {
-            key: STORE_SUCCESS_OUTPUT_KEY,
-            shape: Shape::Boolean,
-            severity: ErrorUnlessConverted,
-            absent: Absent::Inherited(Literal::Boolean(false)),
-            purpose: Purpose::JunitStoreSuccessOutput,
-            ..Field::READ
-        },
-        Field {
-            key: STORE_FAILURE_OUTPUT_KEY,
-            shape: Shape::Boolean,
-            severity: ErrorUnlessConverted,
-            absent: Absent::Inherited(Literal::Boolean(true)),
-            purpose: Purpose::JunitStoreFailureOutput,
-            ..Field::READ
-        },
-        Field {
-            key: REPORT_SKIPPED_KEY,
-            shape: Shape::ReportSkipPolicy,
-            absent: Absent::Inherited(Literal::Text("none")),
-            purpose: Purpose::JunitReportSkipped,
-            ..Field::READ
-        },
-        Field {
-            key: FLAKY_FAIL_STATUS_KEY,
-            shape: Shape::FlakyFailStatus,
-            absent: Absent::Inherited(Literal::Text("failure")),
-            purpose: Purpose::JunitFlakyFailStatus,
-            ..Field::READ
-        },
+        field!(PATH_KEY: Shape::Text, JunitPath,
+            severity: ErrorUnlessConverted, absent: Inherited(Literal::Nothing)),
+        field!(REPORT_NAME_KEY: Shape::Text, JunitReportName,
+            severity: ErrorUnlessConverted, absent: Inherited(Literal::Text("nextest-run"))),
+        field!(STORE_SUCCESS_OUTPUT_KEY: Shape::Boolean, JunitStoreSuccessOutput,
+            severity: ErrorUnlessConverted, absent: Inherited(Literal::Boolean(false))),
+        field!(STORE_FAILURE_OUTPUT_KEY: Shape::Boolean, JunitStoreFailureOutput,
+            severity: ErrorUnlessConverted, absent: Inherited(Literal::Boolean(true))),
+        field!(REPORT_SKIPPED_KEY: Shape::ReportSkipPolicy, JunitReportSkipped,
+            absent: Inherited(Literal::Text("none"))),
+        field!(FLAKY_FAIL_STATUS_KEY: Shape::FlakyFailStatus, JunitFlakyFailStatus,
+            absent: Inherited(Literal::Text("failure"))),
     ];
-
-    pub fn clone(&self, _alloc: Global) -> Result<Self, AllocError>
-        ensures { IfOk result (λ junit. junit_of junit ≡ junit_of self.now) }
-    {
-        let path = self.path.clone()?;
-        let report_name = self.report_name.clone()?;
-        Ok(JunitImpl {
-            path,
-            report_name,
-            ..*self
-        })
-    }
 
     fn read_table(alloc: Global, table: &Table) -> Result<Self, ValueFault>
         ensures meant { IfOk result (λ junit.
@@ -344,6 +298,18 @@ impl JunitImpl {
             store_failure_output,
             report_skipped,
             flaky_fail_status,
+        })
+    }
+
+    pub fn clone(&self, _alloc: Global) -> Result<Self, AllocError>
+        ensures { IfOk result (λ junit. junit_of junit ≡ junit_of self.now) }
+    {
+        let path = self.path.clone()?;
+        let report_name = self.report_name.clone()?;
+        Ok(JunitImpl {
+            path,
+            report_name,
+            ..*self
         })
     }
 }

@@ -5,8 +5,11 @@ ghost use Rattle.std.specs.Prelude.{◌≡◌};
 ghost use Rattle.nextest_config_elements.specs.Fields.{fields_view};
 ghost use Rattle.nextest_config_elements.specs.Keys.{file_fields, override_fields, override_junit_fields, profile_fields};
 
+use crate::field::Absent::{Inherited, OfProfile, Taken};
 use crate::field::FaultSeverity::ErrorUnlessConverted;
-use crate::field::{Absent, Field, Literal, Parts, Referent, Shape, TableRule};
+use crate::field::{
+    Field, Literal, Parts, Referent, Shape, TableRule, documented, field, of_profile,
+};
 use crate::junit::JunitImpl;
 use crate::leak_timeout::LeakTimeout;
 use crate::max_fail::MaxFail;
@@ -18,312 +21,123 @@ use crate::word_list::WordList;
 
 // A file.
 const FILE: &[Field] = &[
-    Field {
-        key: "nextest-version",
-        shape: Shape::NextestVersion,
-        parts: Parts::Versions(VERSIONS),
-        purpose: Purpose::NextestVersion,
-        ..Field::READ
-    },
-    Field {
-        key: "experimental",
-        shape: Shape::Experimental,
-        parts: Parts::Features(FEATURES),
-        purpose: Purpose::Experimental,
-        ..Field::READ
-    },
-    Field {
-        key: "profile",
-        shape: Shape::Table,
-        parts: Parts::Names(
-            Shape::RuledTable(TableRule::Profile),
-            &Parts::Fields(PROFILE),
-        ),
-        purpose: Purpose::Profile,
-        ..Field::READ
-    },
-    Field {
-        key: "store",
-        shape: Shape::Table,
-        parts: Parts::Fields(STORE),
-        purpose: Purpose::Store,
-        ..Field::DOCUMENTED
-    },
-    Field {
-        key: "test-groups",
-        shape: Shape::Table,
-        parts: Parts::Names(
-            Shape::RuledTable(TableRule::Definition(NamedKind::Group)),
-            &Parts::Fields(GROUP),
-        ),
-        purpose: Purpose::TestGroups,
-        ..Field::DOCUMENTED
-    },
-    Field {
-        key: "scripts",
-        shape: Shape::Table,
-        parts: Parts::Fields(SCRIPTS),
-        purpose: Purpose::Scripts,
-        ..Field::DOCUMENTED
-    },
-    Field {
-        key: "script",
-        shape: Shape::RuledTable(TableRule::Scripts(ScriptKind::Setup)),
-        parts: SETUP_SCRIPTS,
-        purpose: Purpose::Script,
-        ..Field::DOCUMENTED
-    },
+    field!("nextest-version": Shape::NextestVersion, NextestVersion,
+        parts: Parts::Versions(VERSIONS)),
+    field!("experimental": Shape::Experimental, Experimental, parts: Parts::Features(FEATURES)),
+    field!("profile": Shape::Table, Profile, parts: PROFILES),
+    documented!("store": Shape::Table, Store, parts: Parts::Fields(STORE)),
+    documented!("test-groups": Shape::Table, TestGroups, parts: TEST_GROUPS),
+    documented!("scripts": Shape::Table, Scripts, parts: Parts::Fields(SCRIPTS)),
+    documented!("script": SCRIPTS_OF_SETUP, Script, parts: SETUP_SCRIPTS),
 ];
 
 // The table `nextest-version`.
 const VERSIONS: &[Field] = &[
-    Field {
-        key: "required",
-        shape: Shape::VersionText,
-        purpose: Purpose::VersionRequired,
-        ..Field::READ
-    },
-    Field {
-        key: "recommended",
-        shape: Shape::VersionText,
-        purpose: Purpose::VersionRecommended,
-        ..Field::READ
-    },
+    field!("required": Shape::VersionText, VersionRequired),
+    field!("recommended": Shape::VersionText, VersionRecommended),
 ];
 
 // The table `experimental`.
 const FEATURES: &[Field] = &[
-    Field {
-        key: "setup-scripts",
-        shape: Shape::Boolean,
-        absent: Absent::Taken(Literal::Boolean(false)),
-        purpose: Purpose::FeatureSetupScripts,
-        ..Field::READ
-    },
-    Field {
-        key: "wrapper-scripts",
-        shape: Shape::Boolean,
-        absent: Absent::Taken(Literal::Boolean(false)),
-        purpose: Purpose::FeatureWrapperScripts,
-        ..Field::READ
-    },
-    Field {
-        key: "benchmarks",
-        shape: Shape::Boolean,
-        absent: Absent::Taken(Literal::Boolean(false)),
-        purpose: Purpose::FeatureBenchmarks,
-        ..Field::READ
-    },
+    field!("setup-scripts": Shape::Boolean, FeatureSetupScripts,
+        absent: Taken(Literal::Boolean(false))),
+    field!("wrapper-scripts": Shape::Boolean, FeatureWrapperScripts,
+        absent: Taken(Literal::Boolean(false))),
+    field!("benchmarks": Shape::Boolean, FeatureBenchmarks, absent: Taken(Literal::Boolean(false))),
 ];
 
 // The table `store`.
-const STORE: &[Field] = &[Field {
-    key: "dir",
-    shape: Shape::Text,
-    absent: Absent::Taken(Literal::Text("target/nextest")),
-    purpose: Purpose::StoreDir,
-    ..Field::DOCUMENTED
-}];
+const STORE: &[Field] = &[
+    documented!("dir": Shape::Text, StoreDir, absent: Taken(Literal::Text("target/nextest"))),
+];
+
+const TEST_GROUPS: Parts = Parts::Names(
+    Shape::RuledTable(TableRule::Definition(NamedKind::Group)),
+    &Parts::Fields(GROUP),
+);
 
 // A test group.
-const GROUP: &[Field] = &[Field {
-    key: "max-threads",
-    shape: Shape::Threads,
-    required: true,
-    purpose: Purpose::GroupMaxThreads,
-    ..Field::DOCUMENTED
-}];
+const GROUP: &[Field] = &[
+    documented!("max-threads": Shape::Threads, GroupMaxThreads, required: true),
+];
 
 // What the table of a profile and that of an override know alike.
 
-const RETRIES: Field = Field {
-    key: "retries",
-    shape: Shape::Retries,
-    parts: Parts::Retries {
-        fixed: RetryPolicy::FIXED_FIELDS,
-        exponential: RetryPolicy::EXPONENTIAL_FIELDS,
-        open: RetryPolicy::OPEN_FIELDS,
-    },
-    absent: Absent::Inherited(Literal::Integer(0)),
-    purpose: Purpose::Retries,
-    ..Field::READ
-};
+const RETRIES: Field = field!("retries": Shape::Retries, Retries,
+    parts: RetryPolicy::PARTS, absent: Inherited(Literal::Integer(0)));
 
-const FLAKY_RESULT: Field = Field {
-    key: "flaky-result",
-    shape: Shape::FlakyResult,
-    absent: Absent::Inherited(Literal::Text("pass")),
-    purpose: Purpose::FlakyResult,
-    ..Field::READ
-};
+const FLAKY_RESULT: Field = field!("flaky-result": Shape::FlakyResult, FlakyResult,
+    absent: Inherited(Literal::Text("pass")));
 
-const THREADS_REQUIRED: Field = Field {
-    key: "threads-required",
-    shape: Shape::ThreadsRequired,
-    absent: Absent::Inherited(Literal::Integer(1)),
-    purpose: Purpose::ThreadsRequired,
-    ..Field::READ
-};
+const THREADS_REQUIRED: Field = field!("threads-required": Shape::ThreadsRequired, ThreadsRequired,
+    absent: Inherited(Literal::Integer(1)));
 
-const SLOW_TIMEOUT: Field = Field {
-    key: "slow-timeout",
-    shape: Shape::SlowTimeout,
-    parts: Parts::Fields(SlowTimeout::FIELDS),
-    absent: Absent::Inherited(Literal::Text("60s")),
-    purpose: Purpose::SlowTimeout,
-    ..Field::READ
-};
+const SLOW_TIMEOUT: Field = field!("slow-timeout": Shape::SlowTimeout, SlowTimeout,
+    parts: Parts::Fields(SlowTimeout::FIELDS), absent: Inherited(Literal::Text("60s")));
 
-const LEAK_TIMEOUT: Field = Field {
-    key: "leak-timeout",
-    shape: Shape::LeakTimeout,
-    parts: Parts::Fields(LeakTimeout::FIELDS),
-    absent: Absent::Inherited(Literal::Text("200ms")),
-    purpose: Purpose::LeakTimeout,
-    ..Field::READ
-};
+const LEAK_TIMEOUT: Field = field!("leak-timeout": Shape::LeakTimeout, LeakTimeout,
+    parts: Parts::Fields(LeakTimeout::FIELDS), absent: Inherited(Literal::Text("200ms")));
 
-const GLOBAL_TIMEOUT: Field = Field {
-    key: "global-timeout",
-    shape: Shape::Duration,
-    absent: Absent::Inherited(Literal::Text("30y")),
-    purpose: Purpose::GlobalTimeout,
-    ..Field::READ
-};
+const GLOBAL_TIMEOUT: Field = field!("global-timeout": Shape::Duration, GlobalTimeout,
+    absent: Inherited(Literal::Text("30y")));
 
-const DEFAULT_FILTER: Field = Field {
-    key: "default-filter",
-    shape: Shape::DefaultFilter,
-    absent: Absent::Inherited(Literal::Text("all()")),
-    purpose: Purpose::DefaultFilter,
-    ..Field::DOCUMENTED
-};
+const DEFAULT_FILTER: Field = documented!("default-filter": Shape::DefaultFilter, DefaultFilter,
+    absent: Inherited(Literal::Text("all()")));
 
-const RUN_EXTRA_ARGS: Field = Field {
-    key: "run-extra-args",
-    shape: Shape::Texts,
-    parts: Parts::Elements(Shape::Text, &Parts::Nothing),
-    absent: Absent::Inherited(Literal::EmptyArray),
-    purpose: Purpose::RunExtraArgs,
-    ..Field::DOCUMENTED
-};
+const RUN_EXTRA_ARGS: Field = documented!("run-extra-args": Shape::Texts, RunExtraArgs,
+    parts: Parts::Elements(Shape::Text, &Parts::Nothing), absent: Inherited(Literal::EmptyArray));
 
-const SUCCESS_OUTPUT: Field = Field {
-    key: "success-output",
-    shape: Shape::Word(WordList::TestOutputDisplay),
-    absent: Absent::Inherited(Literal::Text("never")),
-    purpose: Purpose::SuccessOutput,
-    ..Field::DOCUMENTED
-};
+const SUCCESS_OUTPUT: Field = documented!("success-output": TEST_OUTPUT_DISPLAY, SuccessOutput,
+    absent: Inherited(Literal::Text("never")));
 
-const FAILURE_OUTPUT: Field = Field {
-    key: "failure-output",
-    shape: Shape::Word(WordList::TestOutputDisplay),
-    absent: Absent::Inherited(Literal::Text("immediate")),
-    purpose: Purpose::FailureOutput,
-    ..Field::DOCUMENTED
-};
+const FAILURE_OUTPUT: Field = documented!("failure-output": TEST_OUTPUT_DISPLAY, FailureOutput,
+    absent: Inherited(Literal::Text("immediate")));
+
+const TEST_OUTPUT_DISPLAY: Shape = Shape::Word(WordList::TestOutputDisplay);
+
+const PROFILES: Parts = Parts::Names(
+    Shape::RuledTable(TableRule::Profile),
+    &Parts::Fields(PROFILE),
+);
 
 // A profile.
 const PROFILE: &[Field] = &[
     RETRIES,
     FLAKY_RESULT,
     THREADS_REQUIRED,
-    Field {
-        key: "fail-fast",
-        shape: Shape::FailFast,
-        parts: Parts::Fields(MaxFail::FIELDS),
-        absent: Absent::Inherited(Literal::Boolean(true)),
-        purpose: Purpose::ProfileFailFast,
-        ..Field::READ
-    },
+    field!("fail-fast": Shape::FailFast, ProfileFailFast,
+        parts: Parts::Fields(MaxFail::FIELDS), absent: Inherited(Literal::Boolean(true))),
     SLOW_TIMEOUT,
     LEAK_TIMEOUT,
     GLOBAL_TIMEOUT,
-    Field {
-        key: "junit",
-        shape: Shape::Table,
-        parts: Parts::Fields(JunitImpl::FIELDS),
-        absent: Absent::Inherited(Literal::Nothing),
-        purpose: Purpose::ProfileJunit,
-        ..Field::READ
-    },
-    Field {
-        key: "bench",
-        shape: Shape::Table,
-        parts: Parts::Fields(BENCH),
-        absent: Absent::Inherited(Literal::Nothing),
-        purpose: Purpose::ProfileBench,
-        ..Field::READ
-    },
-    Field {
-        key: "overrides",
-        shape: Shape::Array,
-        parts: Parts::Elements(
-            Shape::RuledTable(TableRule::Override),
-            &Parts::Fields(OVERRIDE),
-        ),
-        absent: Absent::Inherited(Literal::Nothing),
-        purpose: Purpose::ProfileOverrides,
-        ..Field::READ
-    },
-    Field {
-        key: "inherits",
-        shape: Shape::Reference(Referent::Parent),
-        absent: Absent::Taken(Literal::Text("default")),
-        purpose: Purpose::ProfileInherits,
-        ..Field::DOCUMENTED
-    },
+    field!("junit": Shape::Table, ProfileJunit,
+        parts: Parts::Fields(JunitImpl::FIELDS), absent: Inherited(Literal::Nothing)),
+    field!("bench": Shape::Table, ProfileBench,
+        parts: Parts::Fields(BENCH), absent: Inherited(Literal::Nothing)),
+    field!("overrides": Shape::Array, ProfileOverrides,
+        parts: OVERRIDES, absent: Inherited(Literal::Nothing)),
+    documented!("inherits": Shape::Reference(Referent::Parent), ProfileInherits,
+        absent: Taken(Literal::Text("default"))),
     DEFAULT_FILTER,
-    Field {
-        key: "test-threads",
-        shape: Shape::Threads,
-        absent: Absent::Inherited(Literal::Text("num-cpus")),
-        purpose: Purpose::ProfileTestThreads,
-        ..Field::DOCUMENTED
-    },
+    documented!("test-threads": Shape::Threads, ProfileTestThreads,
+        absent: Inherited(Literal::Text("num-cpus"))),
     RUN_EXTRA_ARGS,
-    Field {
-        key: "status-level",
-        shape: Shape::Word(WordList::StatusLevel),
-        absent: Absent::Inherited(Literal::Text("pass")),
-        purpose: Purpose::ProfileStatusLevel,
-        ..Field::DOCUMENTED
-    },
-    Field {
-        key: "final-status-level",
-        shape: Shape::Word(WordList::FinalStatusLevel),
-        absent: Absent::Inherited(Literal::Text("flaky")),
-        purpose: Purpose::ProfileFinalStatusLevel,
-        ..Field::DOCUMENTED
-    },
+    documented!("status-level": Shape::Word(WordList::StatusLevel), ProfileStatusLevel,
+        absent: Inherited(Literal::Text("pass"))),
+    documented!("final-status-level": Shape::Word(WordList::FinalStatusLevel),
+        ProfileFinalStatusLevel, absent: Inherited(Literal::Text("flaky"))),
     SUCCESS_OUTPUT,
     FAILURE_OUTPUT,
-    Field {
-        key: "scripts",
-        shape: Shape::Array,
-        parts: Parts::Elements(
-            Shape::RuledTable(TableRule::ScriptRule),
-            &Parts::Fields(SCRIPT_RULE),
-        ),
-        absent: Absent::Inherited(Literal::Nothing),
-        purpose: Purpose::ProfileScripts,
-        ..Field::DOCUMENTED
-    },
-    Field {
-        key: "archive",
-        shape: Shape::Table,
-        parts: Parts::Fields(ARCHIVE),
-        absent: Absent::Inherited(Literal::Nothing),
-        purpose: Purpose::ProfileArchive,
-        ..Field::DOCUMENTED
-    },
+    documented!("scripts": Shape::Array, ProfileScripts,
+        parts: SCRIPT_RULES, absent: Inherited(Literal::Nothing)),
+    documented!("archive": Shape::Table, ProfileArchive,
+        parts: Parts::Fields(ARCHIVE), absent: Inherited(Literal::Nothing)),
 ];
 
 // The table `bench` of a profile.
 const BENCH: &[Field] = &[
     Field {
-        absent: Absent::Inherited(Literal::Text("30y")),
+        absent: Inherited(Literal::Text("30y")),
         purpose: Purpose::BenchSlowTimeout,
         ..SLOW_TIMEOUT
     },
@@ -335,349 +149,153 @@ const BENCH: &[Field] = &[
 
 // What an override and a rule for scripts know alike.
 
-const FILTER: Field = Field {
-    key: "filter",
-    shape: Shape::Filter,
-    purpose: Purpose::Filter,
-    ..Field::DOCUMENTED
-};
+const FILTER: Field = documented!("filter": Shape::Filter, Filter);
 
-const PLATFORM: Field = Field {
-    key: "platform",
-    shape: Shape::Platform,
-    parts: Parts::Fields(PLATFORM_FIELDS),
-    purpose: Purpose::Platform,
-    ..Field::DOCUMENTED
-};
+const PLATFORM: Field = documented!("platform": Shape::Platform, Platform,
+    parts: Parts::Fields(PLATFORM_FIELDS));
+
+const OVERRIDES: Parts = Parts::Elements(
+    Shape::RuledTable(TableRule::Override),
+    &Parts::Fields(OVERRIDE),
+);
 
 // An override.
 const OVERRIDE: &[Field] = &[
-    Field {
-        key: "priority",
-        shape: Shape::Priority,
-        severity: ErrorUnlessConverted,
-        absent: Absent::Taken(Literal::Integer(0)),
-        purpose: Purpose::OverridePriority,
-        ..Field::READ
-    },
-    Field {
-        absent: Absent::OfProfile,
-        ..THREADS_REQUIRED
-    },
-    Field {
-        absent: Absent::OfProfile,
-        ..RETRIES
-    },
-    Field {
-        absent: Absent::OfProfile,
-        ..FLAKY_RESULT
-    },
-    Field {
-        absent: Absent::OfProfile,
-        ..SLOW_TIMEOUT
-    },
-    Field {
-        absent: Absent::OfProfile,
-        ..LEAK_TIMEOUT
-    },
-    Field {
-        key: "junit",
-        shape: Shape::Table,
-        parts: Parts::Fields(OVERRIDE_JUNIT),
-        absent: Absent::OfProfile,
-        purpose: Purpose::OverrideJunit,
-        ..Field::READ
-    },
+    field!("priority": Shape::Priority, OverridePriority,
+        severity: ErrorUnlessConverted, absent: Taken(Literal::Integer(0))),
+    of_profile!(THREADS_REQUIRED),
+    of_profile!(RETRIES),
+    of_profile!(FLAKY_RESULT),
+    of_profile!(SLOW_TIMEOUT),
+    of_profile!(LEAK_TIMEOUT),
+    field!("junit": Shape::Table, OverrideJunit,
+        parts: Parts::Fields(OVERRIDE_JUNIT), absent: OfProfile),
     FILTER,
     PLATFORM,
-    Field {
-        absent: Absent::OfProfile,
-        ..DEFAULT_FILTER
-    },
-    Field {
-        key: "test-group",
-        shape: Shape::Reference(Referent::Definition(NamedKind::Group)),
-        absent: Absent::Taken(Literal::Text("@global")),
-        purpose: Purpose::OverrideTestGroup,
-        ..Field::DOCUMENTED
-    },
-    Field {
-        absent: Absent::OfProfile,
-        ..RUN_EXTRA_ARGS
-    },
-    Field {
-        absent: Absent::OfProfile,
-        ..SUCCESS_OUTPUT
-    },
-    Field {
-        absent: Absent::OfProfile,
-        ..FAILURE_OUTPUT
-    },
-    Field {
-        key: "bench",
-        shape: Shape::Any,
-        purpose: Purpose::OverrideBench,
-        ..Field::DOCUMENTED
-    },
+    of_profile!(DEFAULT_FILTER),
+    documented!("test-group": Shape::Reference(Referent::TEST_GROUP), OverrideTestGroup,
+        absent: Taken(Literal::Text("@global"))),
+    of_profile!(RUN_EXTRA_ARGS),
+    of_profile!(SUCCESS_OUTPUT),
+    of_profile!(FAILURE_OUTPUT),
+    documented!("bench": Shape::Any, OverrideBench),
 ];
 
 // The table `junit` of an override.
 const OVERRIDE_JUNIT: &[Field] = &[
-    Field {
-        key: "store-success-output",
-        shape: Shape::Boolean,
-        severity: ErrorUnlessConverted,
-        absent: Absent::OfProfile,
-        purpose: Purpose::OverrideJunitStoreSuccessOutput,
-        ..Field::READ
-    },
-    Field {
-        key: "store-failure-output",
-        shape: Shape::Boolean,
-        severity: ErrorUnlessConverted,
-        absent: Absent::OfProfile,
-        purpose: Purpose::OverrideJunitStoreFailureOutput,
-        ..Field::READ
-    },
-    Field {
-        key: "flaky-fail-status",
-        shape: Shape::FlakyFailStatus,
-        absent: Absent::OfProfile,
-        purpose: Purpose::OverrideJunitFlakyFailStatus,
-        ..Field::READ
-    },
-    Field {
-        key: "path",
-        shape: Shape::Any,
-        purpose: Purpose::OverrideJunitPath,
-        ..Field::DOCUMENTED
-    },
-    Field {
-        key: "report-name",
-        shape: Shape::Any,
-        purpose: Purpose::OverrideJunitReportName,
-        ..Field::DOCUMENTED
-    },
-    Field {
-        key: "report-skipped",
-        shape: Shape::Any,
-        purpose: Purpose::OverrideJunitReportSkipped,
-        ..Field::DOCUMENTED
-    },
+    field!("store-success-output": Shape::Boolean, OverrideJunitStoreSuccessOutput,
+        severity: ErrorUnlessConverted, absent: OfProfile),
+    field!("store-failure-output": Shape::Boolean, OverrideJunitStoreFailureOutput,
+        severity: ErrorUnlessConverted, absent: OfProfile),
+    field!("flaky-fail-status": Shape::FlakyFailStatus, OverrideJunitFlakyFailStatus,
+        absent: OfProfile),
+    documented!("path": Shape::Any, OverrideJunitPath),
+    documented!("report-name": Shape::Any, OverrideJunitReportName),
+    documented!("report-skipped": Shape::Any, OverrideJunitReportSkipped),
 ];
 
 // The table `platform` of an override, or of a rule for scripts.
 const PLATFORM_FIELDS: &[Field] = &[
-    Field {
-        key: "host",
-        shape: Shape::PlatformText,
-        purpose: Purpose::PlatformHost,
-        ..Field::DOCUMENTED
-    },
-    Field {
-        key: "target",
-        shape: Shape::PlatformText,
-        purpose: Purpose::PlatformTarget,
-        ..Field::DOCUMENTED
-    },
+    documented!("host": Shape::PlatformText, PlatformHost),
+    documented!("target": Shape::PlatformText, PlatformTarget),
 ];
 
 // The table `scripts`.
 const SCRIPTS: &[Field] = &[
-    Field {
-        key: "setup",
-        shape: Shape::RuledTable(TableRule::Scripts(ScriptKind::Setup)),
-        parts: SETUP_SCRIPTS,
-        purpose: Purpose::ScriptsSetup,
-        ..Field::DOCUMENTED
-    },
-    Field {
-        key: "wrapper",
-        shape: Shape::RuledTable(TableRule::Scripts(ScriptKind::Wrapper)),
-        parts: Parts::Names(
-            Shape::RuledTable(TableRule::Definition(NamedKind::WRAPPER_SCRIPT)),
-            &Parts::Fields(WRAPPER_SCRIPT),
-        ),
-        purpose: Purpose::ScriptsWrapper,
-        ..Field::DOCUMENTED
-    },
+    documented!("setup": SCRIPTS_OF_SETUP, ScriptsSetup, parts: SETUP_SCRIPTS),
+    documented!("wrapper": Shape::RuledTable(TableRule::Scripts(ScriptKind::Wrapper)),
+        ScriptsWrapper, parts: WRAPPER_SCRIPTS),
 ];
 
-const COMMAND: Field = Field {
-    key: "command",
-    shape: Shape::Command,
-    parts: Parts::ElementsOrFields(Shape::Scalar, COMMAND_FIELDS),
-    required: true,
-    purpose: Purpose::Command,
-    ..Field::DOCUMENTED
-};
-
-// A script that sets up tests.
-const SETUP_SCRIPT: &[Field] = &[
-    COMMAND,
-    Field {
-        absent: Absent::Taken(Literal::Nothing),
-        purpose: Purpose::SetupScriptSlowTimeout,
-        ..SLOW_TIMEOUT
-    },
-    Field {
-        absent: Absent::Taken(Literal::Nothing),
-        purpose: Purpose::SetupScriptLeakTimeout,
-        ..LEAK_TIMEOUT
-    },
-    Field {
-        key: "capture-stdout",
-        shape: Shape::Boolean,
-        absent: Absent::Taken(Literal::Boolean(false)),
-        purpose: Purpose::SetupScriptCaptureStdout,
-        ..Field::DOCUMENTED
-    },
-    Field {
-        key: "capture-stderr",
-        shape: Shape::Boolean,
-        absent: Absent::Taken(Literal::Boolean(false)),
-        purpose: Purpose::SetupScriptCaptureStderr,
-        ..Field::DOCUMENTED
-    },
-    Field {
-        key: "junit",
-        shape: Shape::Table,
-        parts: Parts::Fields(SCRIPT_JUNIT),
-        purpose: Purpose::SetupScriptJunit,
-        ..Field::DOCUMENTED
-    },
-];
+const SCRIPTS_OF_SETUP: Shape = Shape::RuledTable(TableRule::Scripts(ScriptKind::Setup));
 
 const SETUP_SCRIPTS: Parts = Parts::Names(
     Shape::RuledTable(TableRule::Definition(NamedKind::SETUP_SCRIPT)),
     &Parts::Fields(SETUP_SCRIPT),
 );
 
+const WRAPPER_SCRIPTS: Parts = Parts::Names(
+    Shape::RuledTable(TableRule::Definition(NamedKind::WRAPPER_SCRIPT)),
+    &Parts::Fields(WRAPPER_SCRIPT),
+);
+
+const COMMAND: Field = documented!("command": Shape::Command, Command,
+    parts: Parts::ElementsOrFields(Shape::Scalar, COMMAND_FIELDS), required: true);
+
+// A script that sets up tests.
+const SETUP_SCRIPT: &[Field] = &[
+    COMMAND,
+    Field {
+        absent: Taken(Literal::Nothing),
+        purpose: Purpose::SetupScriptSlowTimeout,
+        ..SLOW_TIMEOUT
+    },
+    Field {
+        absent: Taken(Literal::Nothing),
+        purpose: Purpose::SetupScriptLeakTimeout,
+        ..LEAK_TIMEOUT
+    },
+    documented!("capture-stdout": Shape::Boolean, SetupScriptCaptureStdout,
+        absent: Taken(Literal::Boolean(false))),
+    documented!("capture-stderr": Shape::Boolean, SetupScriptCaptureStderr,
+        absent: Taken(Literal::Boolean(false))),
+    documented!("junit": Shape::Table, SetupScriptJunit, parts: Parts::Fields(SCRIPT_JUNIT)),
+];
+
 // The table `junit` of a script.
 const SCRIPT_JUNIT: &[Field] = &[
-    Field {
-        key: "store-success-output",
-        shape: Shape::Boolean,
-        absent: Absent::Taken(Literal::Boolean(true)),
-        purpose: Purpose::ScriptJunitStoreSuccessOutput,
-        ..Field::DOCUMENTED
-    },
-    Field {
-        key: "store-failure-output",
-        shape: Shape::Boolean,
-        absent: Absent::Taken(Literal::Boolean(true)),
-        purpose: Purpose::ScriptJunitStoreFailureOutput,
-        ..Field::DOCUMENTED
-    },
+    documented!("store-success-output": Shape::Boolean, ScriptJunitStoreSuccessOutput,
+        absent: Taken(Literal::Boolean(true))),
+    documented!("store-failure-output": Shape::Boolean, ScriptJunitStoreFailureOutput,
+        absent: Taken(Literal::Boolean(true))),
 ];
 
 // A script that wraps tests.
 const WRAPPER_SCRIPT: &[Field] = &[
     COMMAND,
-    Field {
-        key: "target-runner",
-        shape: Shape::Word(WordList::TargetRunner),
-        absent: Absent::Taken(Literal::Text("ignore")),
-        purpose: Purpose::WrapperScriptTargetRunner,
-        ..Field::DOCUMENTED
-    },
+    documented!("target-runner": Shape::Word(WordList::TargetRunner), WrapperScriptTargetRunner,
+        absent: Taken(Literal::Text("ignore"))),
 ];
 
 // The command of a script, as a table.
 const COMMAND_FIELDS: &[Field] = &[
-    Field {
-        key: "command-line",
-        shape: Shape::CommandLine,
-        parts: Parts::Elements(Shape::Scalar, &Parts::Nothing),
-        required: true,
-        purpose: Purpose::CommandCommandLine,
-        ..Field::DOCUMENTED
-    },
-    Field {
-        key: "env",
-        shape: Shape::Table,
-        parts: Parts::Names(Shape::Scalar, &Parts::Nothing),
-        purpose: Purpose::CommandEnv,
-        ..Field::DOCUMENTED
-    },
-    Field {
-        key: "relative-to",
-        shape: Shape::Text,
-        absent: Absent::Taken(Literal::Text("none")),
-        purpose: Purpose::CommandRelativeTo,
-        ..Field::DOCUMENTED
-    },
+    documented!("command-line": Shape::CommandLine, CommandCommandLine,
+        parts: Parts::Elements(Shape::Scalar, &Parts::Nothing), required: true),
+    documented!("env": Shape::Table, CommandEnv,
+        parts: Parts::Names(Shape::Scalar, &Parts::Nothing)),
+    documented!("relative-to": Shape::Text, CommandRelativeTo,
+        absent: Taken(Literal::Text("none"))),
 ];
+
+const SCRIPT_RULES: Parts = Parts::Elements(
+    Shape::RuledTable(TableRule::ScriptRule),
+    &Parts::Fields(SCRIPT_RULE),
+);
 
 // A rule that says for which tests scripts run.
 const SCRIPT_RULE: &[Field] = &[
     FILTER,
     PLATFORM,
-    Field {
-        key: "setup",
-        shape: Shape::References(Referent::Definition(NamedKind::SETUP_SCRIPT)),
-        parts: Parts::Elements(
-            Shape::Reference(Referent::Definition(NamedKind::SETUP_SCRIPT)),
-            &Parts::Nothing,
-        ),
-        absent: Absent::Taken(Literal::EmptyArray),
-        purpose: Purpose::ScriptRuleSetup,
-        ..Field::DOCUMENTED
-    },
-    Field {
-        key: "list-wrapper",
-        shape: Shape::Reference(Referent::Definition(NamedKind::WRAPPER_SCRIPT)),
-        purpose: Purpose::ScriptRuleListWrapper,
-        ..Field::DOCUMENTED
-    },
-    Field {
-        key: "run-wrapper",
-        shape: Shape::Reference(Referent::Definition(NamedKind::WRAPPER_SCRIPT)),
-        purpose: Purpose::ScriptRuleRunWrapper,
-        ..Field::DOCUMENTED
-    },
+    documented!("setup": Shape::References(Referent::SETUP_SCRIPT), ScriptRuleSetup,
+        parts: Parts::Elements(Shape::Reference(Referent::SETUP_SCRIPT), &Parts::Nothing),
+        absent: Taken(Literal::EmptyArray)),
+    documented!("list-wrapper": Shape::Reference(Referent::WRAPPER_SCRIPT), ScriptRuleListWrapper),
+    documented!("run-wrapper": Shape::Reference(Referent::WRAPPER_SCRIPT), ScriptRuleRunWrapper),
 ];
 
 // The table `archive` of a profile.
-const ARCHIVE: &[Field] = &[Field {
-    key: "include",
-    shape: Shape::Array,
-    parts: Parts::Elements(Shape::Table, &Parts::Fields(ARCHIVE_INCLUDE)),
-    absent: Absent::Taken(Literal::EmptyArray),
-    purpose: Purpose::ArchiveInclude,
-    ..Field::DOCUMENTED
-}];
+const ARCHIVE: &[Field] = &[documented!("include": Shape::Array, ArchiveInclude,
+        parts: Parts::Elements(Shape::Table, &Parts::Fields(ARCHIVE_INCLUDE)),
+        absent: Taken(Literal::EmptyArray))];
 
 // Files that an archive has, too.
 const ARCHIVE_INCLUDE: &[Field] = &[
-    Field {
-        key: "path",
-        shape: Shape::RelativePath,
-        required: true,
-        purpose: Purpose::ArchiveIncludePath,
-        ..Field::DOCUMENTED
-    },
-    Field {
-        key: "relative-to",
-        shape: Shape::Word(WordList::ArchiveRelativeTo),
-        required: true,
-        purpose: Purpose::ArchiveIncludeRelativeTo,
-        ..Field::DOCUMENTED
-    },
-    Field {
-        key: "depth",
-        shape: Shape::Depth,
-        absent: Absent::Taken(Literal::Integer(16)),
-        purpose: Purpose::ArchiveIncludeDepth,
-        ..Field::DOCUMENTED
-    },
-    Field {
-        key: "on-missing",
-        shape: Shape::Word(WordList::ArchiveOnMissing),
-        absent: Absent::Taken(Literal::Text("warn")),
-        purpose: Purpose::ArchiveIncludeOnMissing,
-        ..Field::DOCUMENTED
-    },
+    documented!("path": Shape::RelativePath, ArchiveIncludePath, required: true),
+    documented!("relative-to": Shape::Word(WordList::ArchiveRelativeTo), ArchiveIncludeRelativeTo,
+        required: true),
+    documented!("depth": Shape::Depth, ArchiveIncludeDepth, absent: Taken(Literal::Integer(16))),
+    documented!("on-missing": Shape::Word(WordList::ArchiveOnMissing), ArchiveIncludeOnMissing,
+        absent: Taken(Literal::Text("warn"))),
 ];
 
 /// The fields of a file.

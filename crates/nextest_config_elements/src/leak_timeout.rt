@@ -2,12 +2,13 @@
 
 ghost use Rattle.std.specs.Prelude.{◌≡◌, IfOk, IfErr, option_map};
 ghost use Rattle.toml.specs.View.{view};
-ghost use Rattle.nextest_config_values.specs.Read.{RefusesAt, RefusesBy};
+ghost use Rattle.nextest_config_values.specs.Read.{RefusesAt};
 ghost use Rattle.nextest_config_elements.specs.LeakTimeout.{default_leak_timeout, leak_timeout_of, leak_timeout_reading, leak_timeout_reads_back, leak_timeout_results, leak_timeout_table, leak_timeout_word, LeakTimeoutRecord};
 
-use crate::field::{Absent, Field, Literal, Shape};
+use crate::field::Absent::Taken;
+use crate::field::{Field, Literal, Shape, field};
 use crate::from_table::{FromTable, read_set};
-use crate::purpose::Purpose;
+use crate::profile_setting::{ProfileSetting, read_at};
 use nextest_config_values::read::{FromToml, ReadFault, ValueFault, Word, or_default, required};
 use std::alloc::Global;
 use std::time::Duration;
@@ -32,20 +33,9 @@ pub struct LeakTimeout {
 impl LeakTimeout {
     /// The fields of the table `leak-timeout`.
     pub const FIELDS: &'static [Field] = &[
-        Field {
-            key: PERIOD_KEY,
-            shape: Shape::ShortDuration,
-            required: true,
-            purpose: Purpose::LeakTimeoutPeriod,
-            ..Field::READ
-        },
-        Field {
-            key: RESULT_KEY,
-            shape: Shape::LeakTimeoutResult,
-            absent: Absent::Taken(Literal::Text("pass")),
-            purpose: Purpose::LeakTimeoutResult,
-            ..Field::READ
-        },
+        field!(PERIOD_KEY: Shape::ShortDuration, LeakTimeoutPeriod, required: true),
+        field!(RESULT_KEY: Shape::LeakTimeoutResult, LeakTimeoutResult,
+            absent: Taken(Literal::Text("pass"))),
     ];
 }
 
@@ -85,25 +75,25 @@ pub fn deserialize_leak_timeout(
         leak_timeout_reading.means (view value.now) (option_map leak_timeout_of timeout)) }
     ensures refused { IfErr result (RefusesAt leak_timeout_reading (view value.now) at.now) }
 {
-    match read_leak_timeout(alloc, value) {
-        Ok(timeout) => Ok(timeout),
-        Err(fault) => Err(fault.at(alloc, at)),
-    }
+    read_at(alloc, value, at)
 }
 
-/// Reads the value of `leak-timeout`, as [`deserialize_leak_timeout`] does, wherever it stands.
-pub fn read_leak_timeout(alloc: Global, value: &Value) -> Result<Option<LeakTimeout>, ValueFault>
-    ensures meant { IfOk result (λ timeout.
-        leak_timeout_reading.means (view value.now) (option_map leak_timeout_of timeout)) }
-    ensures refused { IfErr result (RefusesBy leak_timeout_reading (view value.now)) }
-{
-    match value.as_str() {
-        Some(_) => {
-            let period = Duration::read_value(alloc, value)?;
-            let result = LeakTimeoutResult::default();
-            Ok(Some(LeakTimeout { period, result }))
+impl ProfileSetting for LeakTimeout {
+    ghost Seen = { LeakTimeoutRecord };
+
+    ghost seen = { leak_timeout_of };
+
+    ghost reading = { leak_timeout_reading };
+
+    fn read_setting(alloc: Global, value: &Value) -> Result<Option<Self>, ValueFault> {
+        match value.as_str() {
+            Some(_) => {
+                let period = Duration::read_value(alloc, value)?;
+                let result = LeakTimeoutResult::default();
+                Ok(Some(LeakTimeout { period, result }))
+            }
+            None => read_set(alloc, value, EXPECTED),
         }
-        None => read_set(alloc, value, EXPECTED),
     }
 }
 

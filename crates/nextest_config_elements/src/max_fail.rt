@@ -10,7 +10,7 @@ ghost use Rattle.nextest_config_elements.specs.declared.max_fail.TerminateMode.{
 
 mod fail_fast;
 
-pub use fail_fast::{MaxFailCount, deserialize_fail_fast, read_fail_fast};
+pub use fail_fast::{MaxFailCount, deserialize_fail_fast};
 use nextest_config_values::read::Word;
 use std::alloc::{AllocError, Global};
 use std::error::Error;

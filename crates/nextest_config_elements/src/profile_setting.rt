@@ -3,17 +3,9 @@
 ghost use Rattle.std.specs.Prelude.{◌≡◌, Err, IfErr, IfOk, MatchResult, Ok, Option, option_map, Some};
 ghost use Rattle.toml.specs.Data.{Data};
 ghost use Rattle.toml.specs.View.{view};
-ghost use Rattle.nextest_config_values.specs.Read.{made_of, Reading, RefusesBy};
-ghost use Rattle.nextest_config_elements.specs.LeakTimeout.{leak_timeout_of, leak_timeout_reading, LeakTimeoutRecord};
-ghost use Rattle.nextest_config_elements.specs.MaxFail.{fail_fast_reading};
-ghost use Rattle.nextest_config_elements.specs.RetryPolicy.{retry_policy_of, retry_policy_reading, RetryPolicyRecord};
-ghost use Rattle.nextest_config_elements.specs.SlowTimeout.{slow_timeout_of, slow_timeout_reading, SlowTimeoutRecord};
+ghost use Rattle.nextest_config_values.specs.Read.{made_of, Reading, RefusesAt, RefusesBy};
 
-use crate::leak_timeout::{LeakTimeout, read_leak_timeout};
-use crate::max_fail::{MaxFail, read_fail_fast};
-use crate::retry_policy::{RetryPolicy, read_retry_policy};
-use crate::slow_timeout::{SlowTimeout, read_slow_timeout};
-use nextest_config_values::read::{FromToml, ValueFault};
+use nextest_config_values::read::{FromToml, ReadFault, ValueFault};
 use std::alloc::Global;
 use toml::Value;
 
@@ -48,50 +40,15 @@ impl<T: FromToml + Drop> ProfileSetting for T {
     }
 }
 
-impl ProfileSetting for RetryPolicy {
-    ghost Seen = { RetryPolicyRecord };
-
-    ghost seen = { retry_policy_of };
-
-    ghost reading = { retry_policy_reading };
-
-    fn read_setting(alloc: Global, value: &Value) -> Result<Option<Self>, ValueFault> {
-        read_retry_policy(alloc, value)
-    }
-}
-
-impl ProfileSetting for MaxFail {
-    ghost Seen = { Self };
-
-    ghost seen = { λ limit. limit };
-
-    ghost reading = { fail_fast_reading };
-
-    fn read_setting(alloc: Global, value: &Value) -> Result<Option<Self>, ValueFault> {
-        read_fail_fast(alloc, value)
-    }
-}
-
-impl ProfileSetting for SlowTimeout {
-    ghost Seen = { SlowTimeoutRecord };
-
-    ghost seen = { slow_timeout_of };
-
-    ghost reading = { slow_timeout_reading };
-
-    fn read_setting(alloc: Global, value: &Value) -> Result<Option<Self>, ValueFault> {
-        read_slow_timeout(alloc, value)
-    }
-}
-
-impl ProfileSetting for LeakTimeout {
-    ghost Seen = { LeakTimeoutRecord };
-
-    ghost seen = { leak_timeout_of };
-
-    ghost reading = { leak_timeout_reading };
-
-    fn read_setting(alloc: Global, value: &Value) -> Result<Option<Self>, ValueFault> {
-        read_leak_timeout(alloc, value)
-    }
+// Reads a setting, as `read_setting` does. A fault names its path, which begins with `at`.
+pub(crate) fn read_at<T: ProfileSetting>(
+    alloc: Global,
+    value: &Value,
+    at: &str,
+) -> Result<Option<T>, ReadFault>
+    ensures meant { IfOk result (λ x.
+        T.reading.means (view value.now) (option_map T.seen x)) }
+    ensures refused { IfErr result (RefusesAt T.reading (view value.now) at.now) }
+{
+    T::read_setting(alloc, value).map_err(|fault| fault.at(alloc, at))
 }

@@ -10,9 +10,10 @@ ghost use Rattle.nextest_config_elements.specs.UnknownKeys.{IsOneOf};
 
 mod rules;
 
-use crate::field::{Absent, Field, Literal, Shape};
+use crate::field::Absent::Taken;
+use crate::field::{Field, Literal, Parts, Shape, field};
 use crate::from_table::{FromTable, read_set};
-use crate::purpose::Purpose;
+use crate::profile_setting::{ProfileSetting, read_at};
 use nextest_config_values::read::{
     FaultKind, ReadFault, Rule, ValueFault, Word, optional, or_default, required, value_at,
 };
@@ -37,45 +38,18 @@ const FIXED_WORD: &str = "fixed";
 
 const EXPONENTIAL_WORD: &str = "exponential";
 
-const BACKOFF_FIELD: Field = Field {
-    key: BACKOFF_KEY,
-    shape: Shape::Backoff,
-    required: true,
-    absent: Absent::Taken(Literal::Text("fixed")),
-    purpose: Purpose::RetriesBackoff,
-    ..Field::READ
-};
+const BACKOFF_FIELD: Field = field!(BACKOFF_KEY: Shape::Backoff, RetriesBackoff,
+    required: true, absent: Taken(Literal::Text("fixed")));
 
-const COUNT_FIELD: Field = Field {
-    key: COUNT_KEY,
-    shape: Shape::U32,
-    required: true,
-    purpose: Purpose::RetriesCount,
-    ..Field::READ
-};
+const COUNT_FIELD: Field = field!(COUNT_KEY: Shape::U32, RetriesCount, required: true);
 
-const DELAY_FIELD: Field = Field {
-    key: DELAY_KEY,
-    shape: Shape::Duration,
-    absent: Absent::Taken(Literal::Text("0s")),
-    purpose: Purpose::RetriesDelay,
-    ..Field::READ
-};
+const DELAY_FIELD: Field = field!(DELAY_KEY: Shape::Duration, RetriesDelay,
+    absent: Taken(Literal::Text("0s")));
 
-const JITTER_FIELD: Field = Field {
-    key: JITTER_KEY,
-    shape: Shape::Boolean,
-    absent: Absent::Taken(Literal::Boolean(false)),
-    purpose: Purpose::RetriesJitter,
-    ..Field::READ
-};
+const JITTER_FIELD: Field = field!(JITTER_KEY: Shape::Boolean, RetriesJitter,
+    absent: Taken(Literal::Boolean(false)));
 
-const MAX_DELAY_FIELD: Field = Field {
-    key: MAX_DELAY_KEY,
-    shape: Shape::Duration,
-    purpose: Purpose::RetriesMaxDelay,
-    ..Field::READ
-};
+const MAX_DELAY_FIELD: Field = field!(MAX_DELAY_KEY: Shape::Duration, RetriesMaxDelay);
 
 /// The maximum number of retries of a failed test, and the time between tries.
 #[derive(Clone, Copy, Debug, PartialEq, Eq)]
@@ -140,6 +114,13 @@ impl RetryPolicy {
         MAX_DELAY_FIELD,
     ];
 
+    // The fields of a table, by its backoff.
+    pub(crate) const PARTS: Parts = Parts::Retries {
+        fixed: RetryPolicy::FIXED_FIELDS,
+        exponential: RetryPolicy::EXPONENTIAL_FIELDS,
+        open: RetryPolicy::OPEN_FIELDS,
+    };
+
     /// So many retries, with no delay between them.
     pub fn new_without_delay(count: u32) -> Self
         ensures { retry_policy_of result ≡ without_delay count }
@@ -173,23 +154,23 @@ pub fn deserialize_retry_policy(
         retry_policy_reading.means (view value.now) (option_map retry_policy_of policy)) }
     ensures refused { IfErr result (RefusesAt retry_policy_reading (view value.now) at.now) }
 {
-    match read_retry_policy(alloc, value) {
-        Ok(policy) => Ok(policy),
-        Err(fault) => Err(fault.at(alloc, at)),
-    }
+    read_at(alloc, value, at)
 }
 
-/// Reads the value of `retries`, as [`deserialize_retry_policy`] does, wherever it stands.
-pub fn read_retry_policy(alloc: Global, value: &Value) -> Result<Option<RetryPolicy>, ValueFault>
-    ensures meant { IfOk result (λ policy.
-        retry_policy_reading.means (view value.now) (option_map retry_policy_of policy)) }
-    ensures refused { IfErr result (RefusesBy retry_policy_reading (view value.now)) }
-{
-    if let Some(number) = value.as_integer() {
-        let policy = read_number(alloc, value, number)?;
-        return Ok(Some(policy));
+impl ProfileSetting for RetryPolicy {
+    ghost Seen = { RetryPolicyRecord };
+
+    ghost seen = { retry_policy_of };
+
+    ghost reading = { retry_policy_reading };
+
+    fn read_setting(alloc: Global, value: &Value) -> Result<Option<Self>, ValueFault> {
+        if let Some(number) = value.as_integer() {
+            let policy = read_number(alloc, value, number)?;
+            return Ok(Some(policy));
+        }
+        read_set(alloc, value, EXPECTED)
     }
-    read_set(alloc, value, EXPECTED)
 }
 
 // The policy that a value with this integer means.
@@ -301,26 +282,6 @@ pub enum Backoff {
     Exponential,
 }
 
-impl Word for Backoff {
-    ghost all = { backoffs_in_order };
-
-    ghost word = { backoff_word };
-
-    ghost reads_back = { backoff_reads_back };
-
-    fn all() -> &'static [Self] {
-        &[Backoff::Fixed, Backoff::Exponential]
-    }
-
-    fn words() -> &'static [&'static str] {
-        &[FIXED_WORD, EXPONENTIAL_WORD]
-    }
-
-    fn position(self) -> usize {
-        self as usize
-    }
-}
-
 impl Backoff {
     /// The backoff that a table names, by its word at `backoff`.
     pub fn of_table(table: &Table) -> Option<Backoff>
@@ -383,6 +344,26 @@ impl Backoff {
     }
 }
 
+impl Word for Backoff {
+    ghost all = { backoffs_in_order };
+
+    ghost word = { backoff_word };
+
+    ghost reads_back = { backoff_reads_back };
+
+    fn all() -> &'static [Self] {
+        &[Backoff::Fixed, Backoff::Exponential]
+    }
+
+    fn words() -> &'static [&'static str] {
+        &[FIXED_WORD, EXPONENTIAL_WORD]
+    }
+
+    fn position(self) -> usize {
+        self as usize
+    }
+}
+
 /// Whether a flaky test, one that passes on a later attempt, fails or passes.
 #[derive(Clone, Copy, Debug, PartialEq, Eq)]
 pub enum FlakyResult {
@@ -408,7 +389,8 @@ impl FlakyResult {
         match self {
             FlakyResult::Fail => {
                 let message = format!(in alloc;
-                    "test passed on attempt {attempt}/{total_attempts} but is configured to fail when flaky"
+                    "test passed on attempt \
+                    {attempt}/{total_attempts} but is configured to fail when flaky"
                 )?;
                 Ok(Some(message))
             }

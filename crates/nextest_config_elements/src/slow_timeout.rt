@@ -3,14 +3,15 @@
 ghost use Rattle.std.specs.Prelude.{◌≡◌, IfOk, IfErr, option_map};
 ghost use Rattle.std.specs.Duration.{as_nanos};
 ghost use Rattle.toml.specs.View.{view};
-ghost use Rattle.nextest_config_values.specs.Read.{RefusesAt, RefusesBy};
+ghost use Rattle.nextest_config_values.specs.Read.{RefusesAt};
 ghost use Rattle.nextest_config_elements.specs.Durations.{seconds};
 ghost use Rattle.nextest_config_elements.specs.SlowTimeout.{default_grace_period, slow_timeout_of, slow_timeout_reading, slow_timeout_reads_back, slow_timeout_results, slow_timeout_table, slow_timeout_word, SlowTimeoutRecord, with_period};
 
+use crate::field::Absent::Taken;
 use crate::field::FaultSeverity::ErrorUnlessConverted;
-use crate::field::{Absent, Field, Literal, Shape};
+use crate::field::{Field, Literal, Shape, field};
 use crate::from_table::{FromTable, read_set};
-use crate::purpose::Purpose;
+use crate::profile_setting::{ProfileSetting, read_at};
 use nextest_config_values::read::{
     FromToml, NonZeroCount, ReadFault, ValueFault, Word, optional, or_default, required,
 };
@@ -44,34 +45,13 @@ pub struct SlowTimeout {
 impl SlowTimeout {
     /// The fields of the table `slow-timeout`.
     pub const FIELDS: &'static [Field] = &[
-        Field {
-            key: PERIOD_KEY,
-            shape: Shape::Duration,
-            required: true,
-            purpose: Purpose::SlowTimeoutPeriod,
-            ..Field::READ
-        },
-        Field {
-            key: TERMINATE_AFTER_KEY,
-            shape: Shape::Count,
-            severity: ErrorUnlessConverted,
-            purpose: Purpose::SlowTimeoutTerminateAfter,
-            ..Field::READ
-        },
-        Field {
-            key: GRACE_PERIOD_KEY,
-            shape: Shape::Duration,
-            absent: Absent::Taken(Literal::Text("10s")),
-            purpose: Purpose::SlowTimeoutGracePeriod,
-            ..Field::READ
-        },
-        Field {
-            key: ON_TIMEOUT_KEY,
-            shape: Shape::SlowTimeoutResult,
-            absent: Absent::Taken(Literal::Text("fail")),
-            purpose: Purpose::SlowTimeoutOnTimeout,
-            ..Field::READ
-        },
+        field!(PERIOD_KEY: Shape::Duration, SlowTimeoutPeriod, required: true),
+        field!(TERMINATE_AFTER_KEY: Shape::Count, SlowTimeoutTerminateAfter,
+            severity: ErrorUnlessConverted),
+        field!(GRACE_PERIOD_KEY: Shape::Duration, SlowTimeoutGracePeriod,
+            absent: Taken(Literal::Text("10s"))),
+        field!(ON_TIMEOUT_KEY: Shape::SlowTimeoutResult, SlowTimeoutOnTimeout,
+            absent: Taken(Literal::Text("fail"))),
     ];
 
     /// A timeout that no test meets: roughly 30 years.
@@ -127,26 +107,26 @@ pub fn deserialize_slow_timeout(
         slow_timeout_reading.means (view value.now) (option_map slow_timeout_of timeout)) }
     ensures refused { IfErr result (RefusesAt slow_timeout_reading (view value.now) at.now) }
 {
-    match read_slow_timeout(alloc, value) {
-        Ok(timeout) => Ok(timeout),
-        Err(fault) => Err(fault.at(alloc, at)),
-    }
+    read_at(alloc, value, at)
 }
 
-/// Reads the value of `slow-timeout`, as [`deserialize_slow_timeout`] does, wherever it stands.
-pub fn read_slow_timeout(alloc: Global, value: &Value) -> Result<Option<SlowTimeout>, ValueFault>
-    ensures meant { IfOk result (λ timeout.
-        slow_timeout_reading.means (view value.now) (option_map slow_timeout_of timeout)) }
-    ensures refused { IfErr result (RefusesBy slow_timeout_reading (view value.now)) }
-{
-    if let Some(text) = value.as_str() {
-        if text.is_empty() {
-            return Ok(None);
+impl ProfileSetting for SlowTimeout {
+    ghost Seen = { SlowTimeoutRecord };
+
+    ghost seen = { slow_timeout_of };
+
+    ghost reading = { slow_timeout_reading };
+
+    fn read_setting(alloc: Global, value: &Value) -> Result<Option<Self>, ValueFault> {
+        if let Some(text) = value.as_str() {
+            if text.is_empty() {
+                return Ok(None);
+            }
+            let period = Duration::read_value(alloc, value)?;
+            return Ok(Some(SlowTimeout::with_period(period)));
         }
-        let period = Duration::read_value(alloc, value)?;
-        return Ok(Some(SlowTimeout::with_period(period)));
+        read_set(alloc, value, EXPECTED)
     }
-    read_set(alloc, value, EXPECTED)
 }
 
 // The grace period where none is given.

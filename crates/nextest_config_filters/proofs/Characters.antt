@@ -1,23 +1,39 @@
 -- Texts and their characters.
-use Rattle.std.proofs.Common.{◌≡◌, ◌≢◌, ℕ, ◌+◌, ◌-◌, ◌≤◌, ◌<◌, true, false, Bor, List, [], ◌∷◌, ◌++◌, length, take, drop, Option, Some, None, nat_eq, refl, sym, ap, ◌∙◌, subst, inl, inr, arith, rules, tests, eq-eqb, eqb-true}
+use Rattle.std.proofs.Common.{◌≡◌, ◌≢◌, ℕ, ◌+◌, ◌-◌, ◌≤◌, true, false, Bor, List, [], ◌∷◌, ◌++◌, length, take, drop, Option, Some, None, nat_eq, refl, sym, ap, ◌∙◌, subst, inl, inr, arith, eq-eqb, eqb-true}
 use Rattle.std.specs.Prelude.{◌==◌, encode_utf8_all, MatchOption}
 use Rattle.std.proofs.Math.Seq.{take-append_seam, drop-append_seam}
-use Rattle.std.proofs.lemmas.Bool.{cases_Bool}
+use Rattle.std.proofs.lemmas.Bool.{cases_Bool, ltb-true}
 use Rattle.std.proofs.lemmas.List.{length-append}
-use Rattle.std.proofs.lemmas.Str.{chars-append, chars-nil, encodes-append, encodes-chars, encodes_same, IsCharBoundary-at_seam, IsCharBoundary-from_take, IsUtf8-drop, IsUtf8-take}
-use Rattle.std.specs.Str.{chars, IsCharBoundary, IsUtf8}
+use Rattle.std.proofs.lemmas.Str.{chars-append, chars-IsAscii, chars-nil, encodes-append, encodes-chars, encodes_same, IsCharBoundary-at_seam, IsCharBoundary-from_take, IsUtf8-drop, IsUtf8-from_ascii, IsUtf8-take}
+use Rattle.std.proofs.lemmas.Str.Ascii.{IsAscii-cons, IsAscii-nil}
+use Rattle.std.specs.Char.{is_ascii}
+use Rattle.std.specs.List.{list_all}
+use Rattle.std.specs.Str.{chars, IsAscii, IsCharBoundary, IsUtf8}
 use Rattle.std.specs.Str.Pattern.{FindsTextPrefix, StripsPrefix}
 use Rattle.std.specs.Cmp.Lexicographic.{bytes_decides, other_text, pointwise, same_text}
 use Rattle.nextest_config_filters.specs.Front.{behind}
+use Rattle.nextest_config_filters.proofs.Tests.{first_true, second_true}
 
 -- the UTF-8 of a text's characters is the text
 pub utf8_of_chars : (text : List ℕ) → IsUtf8 text → encode_utf8_all (chars text) ≡ text
 utf8_of_chars = encodes-chars
 
--- an ASCII character is the text of itself
-pub one_ascii : (c : ℕ) → c < 128 → chars (c ∷ []) ≡ c ∷ []
-unfolding chars
-one_ascii c below = search (rules, tests)
+-- ---- ASCII
+
+are_ascii : (ts : List ℕ) → list_all is_ascii ts ≡ true → IsAscii ts
+are_ascii [] all = IsAscii-nil
+are_ascii (t ∷ ts) all =
+    IsAscii-cons t ts (ltb-true t 128 (first_true (is_ascii t) (list_all is_ascii ts) all))
+    (are_ascii ts (second_true (is_ascii t) (list_all is_ascii ts) all))
+
+-- ASCII characters are the text of themselves
+pub ascii_chars : (ts : List ℕ) → list_all is_ascii ts ≡ true → chars ts ≡ ts
+ascii_chars ts all = chars-IsAscii ts (are_ascii ts all)
+
+pub ascii_utf8 : (ts : List ℕ) → list_all is_ascii ts ≡ true → IsUtf8 ts
+ascii_utf8 ts all = IsUtf8-from_ascii ts (are_ascii ts all)
+
+-- ---- texts
 
 -- no bytes are no characters
 pub no_characters : (text : List ℕ) → nat_eq (length text) 0 ≡ true → chars text ≡ []
@@ -127,48 +143,6 @@ stripped text front (Some x) u v (n, found, is_rest, fits) =
     let whole : text ≡ front ++ x.now = found.1 ∙ ap (λ rest. front ++ rest) (sym is_rest) in
     let apart : chars text ≡ chars front ++ chars x.now = ap chars whole ∙ chars-append front x.now v in
     rw apart (behind_front (chars front) (chars x.now))
-
--- ---- texts of ASCII characters
-
--- the text is of ASCII characters, whose bytes are themselves
-pub record IsPlain (ts : List ℕ) : Type 0 where
-  pub chars_same : chars ts ≡ ts
-  pub bytes_same : encode_utf8_all ts ≡ ts
-
-module _ (text ts : List ℕ) (u : IsUtf8 text) (plain : IsPlain ts) where
-  chars_from : text ≡ ts → chars text ≡ ts
-  chars_from same = ap chars same ∙ plain.chars_same
-
-  bytes_from : chars text ≡ ts → text ≡ ts
-  bytes_from same = sym (encodes-chars text u) ∙ ap encode_utf8_all same ∙ plain.bytes_same
-
-  -- such a text is told by bytes as by characters
-  pub same_test : pointwise nat_eq text ts ≡ pointwise nat_eq (chars text) ts
-  same_test = elim (cases_Bool (pointwise nat_eq (chars text) ts)) [
-    | inl same ↦ (bytes_decides text ts).1 (bytes_from (same_text (chars text) ts (sym same))) ∙ sym same
-    | inr other ↦ elim (cases_Bool (pointwise nat_eq text ts)) [
-      | inl same ↦ absurd (other_text (chars text) ts (sym other) (chars_from (same_text text ts (sym same))))
-      | inr differs ↦ differs ∙ sym other
-    ]
-  ]
-
-  pub same_test_from : pointwise nat_eq ts text ≡ pointwise nat_eq ts (chars text)
-  same_test_from = elim (cases_Bool (pointwise nat_eq ts (chars text))) [
-    | inl same ↦ (bytes_decides ts text).1 (sym (bytes_from (sym (same_text ts (chars text) (sym same))))) ∙ sym same
-    | inr other ↦ elim (cases_Bool (pointwise nat_eq ts text)) [
-      | inl same ↦ absurd (other_text ts (chars text) (sym other) (sym (chars_from (sym (same_text ts text (sym same))))))
-      | inr differs ↦ differs ∙ sym other
-    ]
-  ]
-
--- two parentheses
-pub brackets_chars : chars (40 ∷ 41 ∷ []) ≡ 40 ∷ 41 ∷ []
-unfolding chars
-brackets_chars = refl
-
--- no text
-pub no_chars : chars [] ≡ []
-no_chars = chars-nil
 
 -- two texts are told apart by bytes as by characters
 pub same_characters : (a b : List ℕ) → IsUtf8 a → IsUtf8 b

@@ -1,15 +1,8 @@
-pub mod Arguments
 pub mod Characters
-pub mod Documented
-pub mod DocumentedFilters
-pub mod DocumentedRegexes
+pub mod Filters
 pub mod Fronts
 pub mod Patterns
 pub mod Platforms
-pub mod Predicates
 pub mod Ranges
-pub mod Readings
-pub mod Regexes
 pub mod Steps
-pub mod TextEnds
-pub mod Walks
+pub mod Tests

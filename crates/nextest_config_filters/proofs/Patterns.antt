@@ -7,7 +7,7 @@ use Rattle.regex_syntax.specs.Grammar.{Names, read}
 use Rattle.regex_syntax.specs.Verdict.{default_config, Reads, Refuses}
 use Rattle.regex_syntax.specs.declared.error.ErrorKind.{ErrorKind}
 use Rattle.regex_syntax.specs.declared.error.ErrorKind.TheVariants.{NestLimitExceeded, OutOfMemory}
-use Rattle.nextest_config_filters.specs.Regex.{is_pattern, nests_well}
+use Rattle.nextest_config_filters.specs.Filter.Regex.{is_pattern, nests_well}
 
 some_well : {X : Type 0} (found : Option X) (P : X → Type 0) (test : Option X → Bool) → IsSomeAnd found P
     → ((x : X) → P x → test (Some x) ≡ true) → test found ≡ true
@@ -27,14 +27,14 @@ module _ {A : Type 0} where
   refused_by found kind (inr (inr deep)) = inr (too_deep found deep.1)
 
 -- what it reads is a pattern
-pub pattern_read : (pattern : List ℕ) (hir : _) (names : Names) → Reads default_config pattern hir names
+pub accepts : (pattern : List ℕ) (hir : _) (names : Names) → Reads default_config pattern hir names
     → is_pattern (chars pattern) ≡ true
 unfolding Reads is_pattern
-pattern_read pattern hir names reads =
+accepts pattern hir names reads =
     some_well (read default_config (chars pattern)) _ nests_well reads (λ x is. le-leb x.0.depth 250 is.0)
 
 -- and what it refuses is none, where memory didn't run out
-pub pattern_refused : (pattern : List ℕ) (kind : ErrorKind) → Refuses default_config pattern kind
+pub refuses : (pattern : List ℕ) (kind : ErrorKind) → Refuses default_config pattern kind
     → (kind ≡ OutOfMemory) ⊎ (is_pattern (chars pattern) ≡ false)
 unfolding Refuses is_pattern
-pattern_refused pattern kind refuses = refused_by (read default_config (chars pattern)) kind refuses
+refuses pattern kind refused = refused_by (read default_config (chars pattern)) kind refused

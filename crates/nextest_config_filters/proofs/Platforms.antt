@@ -1,4 +1,4 @@
--- What is told of platforms.
+-- What is reported of platforms.
 pub mod Outcomes
 pub mod Documented
 pub mod DocumentedPlatforms
@@ -7,4 +7,3 @@ pub mod Readings
 pub mod Rests
 pub mod Steps
 pub mod Walks
-pub mod Words

@@ -1,23 +1,24 @@
 -- One fault, and its range of bytes.
-use Rattle.std.proofs.Common.{◌≡◌, ℕ, ◌+◌, true, false, Bool, List, [], ◌∷◌, ◌++◌, length, Option, refl, sym, ap, ◌∙◌, subst, arith, append_assoc, length-append}
-use Rattle.std.specs.Prelude.{◌&&◌, encode_utf8_all}
+use Rattle.std.proofs.Common.{◌≡◌, ℕ, ◌+◌, true, List, [], ◌∷◌, ◌++◌, length, Option, refl, sym, ap, ◌∙◌, subst, arith, append_assoc, length-append}
+use Rattle.std.specs.Prelude.{encode_utf8_all}
 use Rattle.std.proofs.lemmas.List.{append_cancel_right}
 use Rattle.std.proofs.lemmas.Str.{encodes-append, encodes-chars, IsCharBoundary-at_seam, scalars-chars}
 use lib.Utf8.{scalar}
 use Rattle.std.specs.Str.{all_scalars, chars, IsCharBoundary, IsUtf8}
 use Rattle.nextest_config_values.specs.NearestWord.{nearest_once}
-use Rattle.nextest_config_filters.specs.Fault.{Fault, filter, found_of}
-use Rattle.nextest_config_filters.specs.Filter.{IsFaultOf, IsFilterFault, IsRangeIn}
+use Rattle.nextest_config_filters.specs.Fault.{Fault, filter, found_of, IsRangeIn}
+use Rattle.nextest_config_filters.specs.Filter.Fault.{IsFaultOf, IsFilterFault}
+use Rattle.nextest_config_filters.specs.Filter.Hint.{IsByNearest, IsHint, name_hint, predicate_hint}
+use Rattle.nextest_config_filters.specs.Filter.Predicate.{suggested}
+use Rattle.nextest_config_filters.specs.Filter.Reading.{FaultAt}
 use Rattle.nextest_config_filters.specs.Front.{bytes_of}
-use Rattle.nextest_config_filters.specs.Hint.{IsByNearest, IsHint, name_hint, predicate_hint}
-use Rattle.nextest_config_filters.specs.Predicate.{suggested}
-use Rattle.nextest_config_filters.specs.Told.{Told}
 use Rattle.nextest_config_filters.specs.declared.fault.Expected.{Expected}
 use Rattle.nextest_config_filters.specs.declared.fault.Expected.TheVariants as expect
 use Rattle.nextest_config_filters.specs.declared.fault.FilterFlaw.{FilterFlaw}
 use Rattle.nextest_config_filters.specs.declared.fault.FilterFlaw.TheVariants as flaws
 use Rattle.nextest_config_filters.specs.declared.filter.FilterPlace.{FilterPlace}
-use Rattle.nextest_config_filters.proofs.Steps.{told_once}
+use Rattle.nextest_config_filters.proofs.Filters.Steps.{reported_once}
+use Rattle.nextest_config_filters.proofs.Tests.{second_true}
 
 pub bytes_joined : (front cs : List ℕ) → bytes_of (front ++ cs) ≡ bytes_of front + bytes_of cs
 bytes_joined front cs =
@@ -35,6 +36,10 @@ one_by_nearest : (found : List ℕ) (hint_of : Option (List ℕ) → Option (Lis
     → IsByNearest found hint_of a → IsByNearest found hint_of b → a ≡ b
 one_by_nearest found hint_of a b (near, is_near, a_is) (other, is_other, b_is) =
     a_is ∙ ap hint_of (nearest_once suggested found near other is_near is_other) ∙ sym b_is
+
+-- both are the same
+pub as_said : (a b said : Option (List ℕ)) → a ≡ said → b ≡ said → a ≡ b
+as_said a b said is also = is ∙ sym also
 
 one_expected_hint : (text : List ℕ) (expected : Expected) (found : List ℕ) (a b : Option (List ℕ))
     → IsHint text (flaws.Unexpected expected) found a → IsHint text (flaws.Unexpected expected) found b → a ≡ b
@@ -64,26 +69,22 @@ one_hint text flaws.InvalidRegex found a b is also = is ∙ sym also
 
 -- ---- one fault
 
-same_fault : (text : List ℕ) (told : Told) (a b : Fault) → IsFaultOf text told a → IsFaultOf text told b → a ≡ b
-same_fault text told a b one other =
-    let front = append_cancel_right one.front other.front (told.what ++ told.behind) (sym one.whole ∙ other.whole) in
+same_fault : (text : List ℕ) (reported : FaultAt) (a b : Fault) → IsFaultOf text reported a → IsFaultOf text reported b → a ≡ b
+same_fault text reported a b one other =
+    let front = append_cancel_right one.front other.front (reported.what ++ reported.behind) (sym one.whole ∙ other.whole) in
     let begin : a.begin ≡ b.begin = one.begin ∙ ap bytes_of front ∙ sym other.begin in
-    let end : a.end ≡ b.end = one.end ∙ ap (λ f. bytes_of (f ++ told.what)) front ∙ sym other.end in
-    let hint : one.hint ≡ other.hint = one_hint text told.flaw (encode_utf8_all told.found) _ _ one.is_hint other.is_hint in
-    let kind : a.kind ≡ b.kind = one.kind ∙ ap (filter told.flaw (found_of told.flaw (encode_utf8_all told.found))) hint ∙ sym other.kind in
+    let end : a.end ≡ b.end = one.end ∙ ap (λ f. bytes_of (f ++ reported.what)) front ∙ sym other.end in
+    let hint : one.hint ≡ other.hint = one_hint text reported.flaw (encode_utf8_all reported.found) _ _ one.is_hint other.is_hint in
+    let kind : a.kind ≡ b.kind = one.kind ∙ ap (filter reported.flaw (found_of reported.flaw (encode_utf8_all reported.found))) hint ∙ sym other.kind in
     λ i. record { begin = begin i; end = end i; kind = kind i }
 
 pub one_fault : (place : FilterPlace) (text : List ℕ) (one other : Fault) → IsFilterFault place text one
     → IsFilterFault place text other → one ≡ other
 one_fault place text one other is also =
-    let same = told_once place (chars text) is.told also.told is.is_told also.is_told in
-    same_fault text also.told one other (subst (λ told. IsFaultOf text told one) same is.is_fault) also.is_fault
+    let same = reported_once place (chars text) is.reported also.reported is.is_reported also.is_reported in
+    same_fault text also.reported one other (subst (λ reported. IsFaultOf text reported one) same is.is_fault) also.is_fault
 
 -- ---- its range
-
-second_true : (a b : Bool) → (a && b) ≡ true → b ≡ true
-second_true true b both = both
-second_true false b both = cc both
 
 all_behind : (front cs : List ℕ) → all_scalars (front ++ cs) ≡ true → all_scalars cs ≡ true
 all_behind [] cs all = all
@@ -99,7 +100,7 @@ pub range_in_text : (place : FilterPlace) (text : List ℕ) (fault : Fault) → 
     → IsRangeIn text fault.begin fault.end
 range_in_text place text fault u is =
     let f = is.is_fault in
-    let t = is.told in
+    let t = is.reported in
     let parts = bytes_of_parts f.front (chars text) t.what t.behind f.whole in
     let joined = bytes_joined f.front t.what in
     record {

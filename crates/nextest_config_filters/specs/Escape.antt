@@ -1,7 +1,7 @@
 -- Backslashes in the text of an argument.
 use Rattle.std.specs.Prelude.{ℕ, ◌==◌, ◌&&◌, ◌||◌, not, Bool, false, List, [], ◌∷◌, if◌then◌else◌}
 use Rattle.std.specs.Char.{is_ascii_alphabetic, is_ascii_digit}
-use Rattle.nextest_config_filters.specs.Front.{begins, behind_run, closing_brace, in_code, opening_brace, bar}
+use Rattle.nextest_config_filters.specs.Front.{bar, begins, behind_run, closing_brace, in_code, opening_brace}
 
 -- `u`
 abbrev pub letter_u : ℕ

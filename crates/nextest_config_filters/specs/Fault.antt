@@ -1,8 +1,9 @@
 -- What is wrong with a text, and how it prints.
-use Rattle.std.specs.Prelude.{ℕ, List, [], ◌∷◌, ◌++◌, codes, string_bytes, Option, Some, None, option_map}
+use Rattle.std.specs.Prelude.{◌≤◌, length, ℕ, List, [], ◌∷◌, ◌++◌, codes, string_bytes, Option, Some, None, option_map}
+use Rattle.std.specs.Str.{IsCharBoundary}
 use Rattle.toml_spans.specs.QuotedText.{quoted_text}
+use Rattle.nextest_config_filters.specs.Filter.Predicate.{name_of}
 use Rattle.nextest_config_filters.specs.Platform.Flaw.{code_of_platform, platform_text}
-use Rattle.nextest_config_filters.specs.Predicate.{name_of}
 use Rattle.nextest_config_filters.specs.declared.fault.Expected.{Expected}
 use Rattle.nextest_config_filters.specs.declared.fault.Expected.TheVariants as expect
 use Rattle.nextest_config_filters.specs.declared.fault.FilterFlaw.{FilterFlaw}
@@ -14,7 +15,7 @@ use Rattle.nextest_config_filters.specs.declared.fault.TextFaultKind.{TextFaultK
 use Rattle.nextest_config_filters.specs.declared.fault.TextFaultKind.TheVariants as kinds
 use Rattle.nextest_config_filters.specs.declared.platform.flaw.PlatformFlaw.{PlatformFlaw}
 
--- a fault without where its texts lie in memory: what is found there, and what may be meant, in UTF-8
+-- a fault without where its texts lie in memory: what is found there, and what may be meant
 pub data Kind : Type 0 where
   filter : (flaw : FilterFlaw) (found : List ℕ) (hint : Option (List ℕ)) → Kind
   platform : (flaw : PlatformFlaw) (found : List ℕ) (hint : Option (List ℕ)) → Kind
@@ -49,6 +50,13 @@ worded_kind_of (kinds.Platform flaw found hint) =
 abbrev pub worded_fault_of : TextFault → Fault
 worded_fault_of fault =
     record { begin = fault.begin; end = fault.end; kind = worded_kind_of fault.kind }
+
+-- the range lies in the text, and its ends at borders of characters
+pub record IsRangeIn (text : List ℕ) (begin end : ℕ) : Type 0 where
+  pub in_order : begin ≤ end
+  pub fits : end ≤ length text
+  pub begins_character : IsCharBoundary text begin
+  pub ends_character : IsCharBoundary text end
 
 -- ---- codes
 

@@ -1,5 +1,5 @@
--- What a text begins with, as a list of characters: spaces, a word, a text, or whatever stands there.
-use Rattle.std.specs.Prelude.{◌≡◌, ℕ, ◌==◌, ◌-◌, ◌&&◌, ◌||◌, nat_le, not, Bool, true, false, List, [], ◌∷◌, ◌++◌, encode_utf8_all, length, take, Option, Some, None, if◌then◌else◌}
+-- What a text begins with, as a list of characters: spaces, a word, a text, or what else is there.
+use Rattle.std.specs.Prelude.{◌≡◌, ℕ, ◌==◌, ◌-◌, ◌&&◌, ◌||◌, nat_le, not, Bool, false, List, [], ◌∷◌, ◌++◌, encode_utf8_all, length, take, Option, Some, None, if◌then◌else◌}
 use Rattle.std.specs.Char.{is_ascii_alphabetic, is_ascii_alphanumeric, is_ascii_digit, is_ascii_hexdigit, is_whitespace}
 use Rattle.toml_spans.specs.Characters.{carriage_return, double_quote, hyphen, line_feed}
 use Rattle.nextest_config_filters.specs.declared.front.Run.{Run}
@@ -86,16 +86,26 @@ behind_run kind (c ∷ cs) = if kind c then behind_run kind cs else c ∷ cs
 abbrev pub is_blank : ℕ → List ℕ → Bool
 is_blank c cs = c == space || (c == line_feed || (c == carriage_return && begins line_feed cs))
 
+-- what stands behind those at the front
+abbrev pub behind_blanks : List ℕ → List ℕ
+behind_blanks [] = []
+behind_blanks (c ∷ cs) = if is_blank c cs then behind_blanks cs else c ∷ cs
+
+-- the text begins with a space
+abbrev pub begins_with_space : List ℕ → Bool
+begins_with_space [] = false
+begins_with_space (c ∷ cs) = is_whitespace c
+
 -- all spaces at the front are blanks
 abbrev pub only_blanks : List ℕ → Bool
-only_blanks [] = true
-only_blanks (c ∷ cs) = if is_blank c cs then only_blanks cs else not (is_whitespace c)
+only_blanks cs = not (begins_with_space (behind_blanks cs))
 
 -- ---- words
 
--- a word begins with an ASCII letter, a digit, `_`, or a character that is neither ASCII nor a space
+-- a word begins with an ASCII letter, a digit, `_`, or a character beyond ASCII that is no space
 abbrev pub begins_word : ℕ → Bool
-begins_word c = is_ascii_alphanumeric c || (c == underscore || (nat_le 128 c && not (is_whitespace c)))
+begins_word c =
+    is_ascii_alphanumeric c || (c == underscore || (nat_le 128 c && not (is_whitespace c)))
 
 -- and goes on with these and `-`
 abbrev pub in_word : ℕ → Bool

@@ -1,14 +1,8 @@
-pub mod Argument
 pub mod Escape
 pub mod Fault
 pub mod Filter
 pub mod Front
-pub mod Grammar
-pub mod Hint
 pub mod Pieces
 pub mod Platform
-pub mod Predicate
-pub mod Reading
-pub mod Regex
-pub mod Told
-pub mod Walk
+pub mod Steps
+pub mod Text

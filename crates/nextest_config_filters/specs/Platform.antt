@@ -1,9 +1,9 @@
--- What is told of a platform.
+-- What is reported of a platform.
 pub mod Flaw
 pub mod Near
 pub mod Key
-pub mod Told
 pub mod Reading
+pub mod Member
 pub mod Walk
 pub mod Outcome
 pub mod Steps

@@ -4,13 +4,13 @@ ghost use Rattle.std.specs.Prelude.{◌≡◌, ◌++◌, Some, option_map, strin
 ghost use Rattle.std.specs.Fmt.{WritesOnOk};
 ghost use Rattle.toml_spans.specs.QuotedText.{quoted_text};
 ghost use Rattle.nextest_config_filters.specs.Fault.{code_of, code_of_expected, code_of_flaw, expected_text, fault_text, flaw_text, found_text, hint_text, kind_of, worded_fault_of};
-ghost use Rattle.nextest_config_filters.specs.Predicate.{name_of};
+ghost use Rattle.nextest_config_filters.specs.Filter.Predicate.{name_of};
 
+use crate::filter::Predicate;
 use crate::platform::{PlatformFlaw, write_platform_flaw};
-use crate::predicate::Predicate;
 use nextest_config_values::read::Word;
-use std::fmt;
-use toml_spans::write_quoted;
+use std::fmt::{self, Formatter, Write};
+use toml_spans::{QuotedText, write_quoted};
 
 /// A fault of a text, at a range of its bytes.
 #[derive(Debug, PartialEq, Eq, Drop)]
@@ -44,17 +44,14 @@ pub enum TextFaultKind {
 /// What kind of fault it is.
 #[derive(Clone, Copy, Debug, PartialEq, Eq)]
 pub enum TextFaultCode {
-    /// A text is no filter.
     FilterSyntax,
-    /// No predicate of filters has a name.
+    /// No predicate of filters has the name.
     UnknownPredicate,
-    /// A default filter asks for the default filter.
+    /// A default filter asks for itself.
     BannedPredicate,
-    /// The argument of a predicate isn't one that it takes.
     FilterArgument,
-    /// A text is no platform.
     PlatformSyntax,
-    /// A platform is a word that is the name of no target.
+    /// A word that is the name of no target.
     PlatformWord,
 }
 
@@ -153,7 +150,7 @@ impl Expected {
 impl fmt::Display for TextFault {
     ghost output = { λ fault. Some (fault_text (worded_fault_of fault)) };
 
-    fn fmt<W: fmt::Write>(&self, f: &mut fmt::Formatter<W>) -> fmt::Result {
+    fn fmt<W: Write>(&self, f: &mut Formatter<W>) -> fmt::Result {
         match &self.kind {
             TextFaultKind::Filter { flaw, found, hint } => {
                 write_flaw(f, *flaw, found.as_str())?;
@@ -167,11 +164,7 @@ impl fmt::Display for TextFault {
     }
 }
 
-fn write_flaw<W: fmt::Write>(
-    f: &mut fmt::Formatter<W>,
-    flaw: FilterFlaw,
-    found: &str,
-) -> fmt::Result
+fn write_flaw<W: Write>(f: &mut Formatter<W>, flaw: FilterFlaw, found: &str) -> fmt::Result
     ensures { WritesOnOk W.write_str_gives f.old result (flaw_text flaw found.now) f.new }
 {
     match flaw {
@@ -179,7 +172,7 @@ fn write_flaw<W: fmt::Write>(
         FilterFlaw::Unexpected(expected) => write_unexpected(f, expected, found),
         FilterFlaw::NotClosed => f.write_str("this \"(\" isn't closed"),
         FilterFlaw::NotOpen => f.write_str("nothing is open that this \")\" closes"),
-        FilterFlaw::UnknownPredicate => write_unknown(f, found),
+        FilterFlaw::UnknownPredicate => write!(f, "unknown predicate {}", QuotedText(found)),
         FilterFlaw::AsksForItself => {
             f.write_str("a default-filter can't ask for \"default\", which is itself")
         }
@@ -192,20 +185,21 @@ fn write_flaw<W: fmt::Write>(
             predicate,
             " takes one argument, a comma in it is written \\,",
         ),
-        FilterFlaw::UnknownEscape => write_escape(f, found),
+        FilterFlaw::UnknownEscape => {
+            write!(
+                f,
+                "unknown escape `{found}`, a regular expression is written /../"
+            )
+        }
         FilterFlaw::UnknownCode => f.write_str("unknown escape `\\u`, expected `\\u{..}`"),
         FilterFlaw::RegexNotClosed => {
             f.write_str("this \"/\" begins a regular expression that isn't closed")
         }
-        FilterFlaw::InvalidRegex => write_refused(f, found),
+        FilterFlaw::InvalidRegex => write!(f, "not a regular expression: {found}"),
     }
 }
 
-fn write_unexpected<W: fmt::Write>(
-    f: &mut fmt::Formatter<W>,
-    expected: Expected,
-    found: &str,
-) -> fmt::Result
+fn write_unexpected<W: Write>(f: &mut Formatter<W>, expected: Expected, found: &str) -> fmt::Result
     ensures { WritesOnOk W.write_str_gives f.old result
         (flaw_text (FilterFlaw.Unexpected expected) found.now) f.new }
 {
@@ -215,29 +209,23 @@ fn write_unexpected<W: fmt::Write>(
     write_found(f, found)
 }
 
-fn write_expected<W: fmt::Write>(f: &mut fmt::Formatter<W>, expected: Expected) -> fmt::Result
+fn write_expected<W: Write>(f: &mut Formatter<W>, expected: Expected) -> fmt::Result
     ensures { WritesOnOk W.write_str_gives f.old result (expected_text expected) f.new }
 {
     match expected {
         Expected::Expression => f.write_str("an expression"),
         Expected::PredicateAndArgument => f.write_str("a predicate with its argument"),
-        Expected::Opening(predicate) => write_opening(f, predicate),
+        Expected::Opening(predicate) => {
+            write!(f, "\"(\" behind {}", QuotedText(predicate.as_word()))
+        }
         Expected::Operator => f.write_str("an operator or the end"),
         Expected::HostOrTarget => f.write_str("\"host\" or \"target\""),
         Expected::ClosingOfRegex => f.write_str("\")\" behind the regular expression"),
     }
 }
 
-fn write_opening<W: fmt::Write>(f: &mut fmt::Formatter<W>, predicate: Predicate) -> fmt::Result
-    ensures { WritesOnOk W.write_str_gives f.old result
-        (expected_text (Expected.Opening predicate)) f.new }
-{
-    f.write_str("\"(\" behind ")?;
-    write_quoted(f, predicate.as_word())
-}
-
 // What is found, or that it is the end.
-fn write_found<W: fmt::Write>(f: &mut fmt::Formatter<W>, found: &str) -> fmt::Result
+fn write_found<W: Write>(f: &mut Formatter<W>, found: &str) -> fmt::Result
     ensures { WritesOnOk W.write_str_gives f.old result (found_text found.now) f.new }
 {
     if found.is_empty() {
@@ -247,37 +235,8 @@ fn write_found<W: fmt::Write>(f: &mut fmt::Formatter<W>, found: &str) -> fmt::Re
     }
 }
 
-fn write_unknown<W: fmt::Write>(f: &mut fmt::Formatter<W>, found: &str) -> fmt::Result
-    ensures { WritesOnOk W.write_str_gives f.old result
-        (flaw_text FilterFlaw.UnknownPredicate found.now) f.new }
-{
-    f.write_str("unknown predicate ")?;
-    write_quoted(f, found)
-}
-
-fn write_escape<W: fmt::Write>(f: &mut fmt::Formatter<W>, found: &str) -> fmt::Result
-    ensures { WritesOnOk W.write_str_gives f.old result
-        (flaw_text FilterFlaw.UnknownEscape found.now) f.new }
-{
-    f.write_str("unknown escape `")?;
-    f.write_str(found)?;
-    f.write_str("`, a regular expression is written /../")
-}
-
-fn write_refused<W: fmt::Write>(f: &mut fmt::Formatter<W>, words: &str) -> fmt::Result
-    ensures { WritesOnOk W.write_str_gives f.old result
-        (flaw_text FilterFlaw.InvalidRegex words.now) f.new }
-{
-    f.write_str("not a regular expression: ")?;
-    f.write_str(words)
-}
-
 // The name of the predicate, and what is wrong with its argument.
-fn write_named<W: fmt::Write>(
-    f: &mut fmt::Formatter<W>,
-    predicate: Predicate,
-    wrong: &str,
-) -> fmt::Result
+fn write_named<W: Write>(f: &mut Formatter<W>, predicate: Predicate, wrong: &str) -> fmt::Result
     ensures { WritesOnOk W.write_str_gives f.old result
         (quoted_text (name_of predicate) ++ wrong.now) f.new }
 {
@@ -285,7 +244,7 @@ fn write_named<W: fmt::Write>(
     f.write_str(wrong)
 }
 
-fn write_hint<W: fmt::Write>(f: &mut fmt::Formatter<W>, hint: &Option<String>) -> fmt::Result
+fn write_hint<W: Write>(f: &mut Formatter<W>, hint: &Option<String>) -> fmt::Result
     ensures { WritesOnOk W.write_str_gives f.old result
         (hint_text (option_map string_bytes hint.now)) f.new }
 {

@@ -1,19 +1,28 @@
 //! What is wrong with a filter.
 
-ghost use Rattle.std.specs.Prelude.{◌≡◌, ◌++◌, IfOk, IsOk, MatchOption, chars, encode_utf8_all, option_map, string_bytes};
+mod argument;
+mod expression;
+mod hint;
+mod predicate;
+mod reading;
+mod regex;
+mod walk;
+
+ghost use Rattle.std.specs.Prelude.{◌≡◌, ◌++◌, IfOk, IsOk, MatchOption, chars, encode_utf8_all};
 ghost use Rattle.nextest_config_filters.specs.Fault.{Fault, fault_of, found_of};
-ghost use Rattle.nextest_config_filters.specs.Filter.{HasNoRegex, IsFaultOf, IsFilterFault, IsTold};
+ghost use Rattle.nextest_config_filters.specs.Filter.Fault.{IsFaultOf, IsFilterFault, IsReported};
+ghost use Rattle.nextest_config_filters.specs.Filter.Reading.{fault_view, FaultAt as FaultAtOf};
+ghost use Rattle.nextest_config_filters.specs.Filter.Walk.{HasNoRegex};
 ghost use Rattle.nextest_config_filters.specs.Front.{IsRest};
-ghost use Rattle.nextest_config_filters.specs.Hint.{IsHint};
-ghost use Rattle.nextest_config_filters.specs.Told.{Told as ToldOf, told_view};
 
 use crate::fault::{FilterFlaw, TextFault, TextFaultKind};
 use crate::front::behind_spaces;
-use crate::hint::hint_of;
-use crate::text::{owned, size};
-use crate::told::{Told, told_at};
-use crate::walk::told_in;
+use crate::text::size;
+use hint::hint_of;
+pub use predicate::Predicate;
+use reading::{FaultAt, fault_at};
 use std::alloc::{AllocError, Global};
+use walk::reported_in;
 
 /// Where a filter stands.
 #[derive(Clone, Copy, Debug, PartialEq, Eq)]
@@ -30,75 +39,67 @@ pub fn filter_fault(
     text: &str,
     place: FilterPlace,
 ) -> Result<Option<TextFault>, AllocError>
-    // The fault is told that the filter has, and none where it has none.
+    // The fault is reported that the filter has, and none where it has none.
     ensures found { IfOk result (λ found.
         MatchOption found ((fault : Fault) → ¬ IsFilterFault place text.now fault)
         (λ own. IsFilterFault place text.now (fault_of own))) }
-    // Where nothing is told and no regular expression stands, no memory is asked for.
-    ensures no_memory { ((told : ToldOf) → ¬ IsTold place (chars text.now) told)
+    // Where nothing is reported and no regular expression stands, no memory is asked for.
+    ensures no_memory { ((reported : FaultAtOf) → ¬ IsReported place (chars text.now) reported)
         → HasNoRegex place (chars text.now) → IsOk result }
 {
-    let told = told(alloc, place, text)?;
-    match told {
-        Some(told) => Ok(Some(hinted(alloc, text, &told)?)),
+    let reported = reported(alloc, place, text)?;
+    match reported {
+        Some(fault) => Ok(Some(hinted(alloc, text, &fault)?)),
         None => Ok(None),
     }
 }
 
-// What is told of a text, before its hint.
-fn told(alloc: Global, place: FilterPlace, text: &str) -> Result<Option<Told<'_>>, AllocError>
-    ensures told { IfOk result (λ found.
-        MatchOption found ((told : ToldOf) → ¬ IsTold place (chars text.now) told)
-        (λ own. IsTold place (chars text.now) (told_view own))) }
+// The first fault of a text, before its hint.
+fn reported(
+    alloc: Global,
+    place: FilterPlace,
+    text: &str,
+) -> Result<Option<FaultAt<'_>>, AllocError>
+    ensures reported { IfOk result (λ found.
+        MatchOption found ((reported : FaultAtOf) → ¬ IsReported place (chars text.now) reported)
+        (λ own. IsReported place (chars text.now) (fault_view own))) }
     ensures no_memory { HasNoRegex place (chars text.now) → IsOk result }
 {
     if behind_spaces(text).is_empty() {
-        return Ok(Some(told_at(text, "", FilterFlaw::Empty)));
+        return Ok(Some(fault_at(text, "", FilterFlaw::Empty)));
     }
-    let told = told_in(alloc, place, text)?;
-    Ok(told)
+    let found = reported_in(alloc, place, text)?;
+    Ok(found)
 }
 
-// What is told of a text, with what may be meant.
-fn hinted(alloc: Global, text: &str, told: &Told<'_>) -> Result<TextFault, AllocError>
-    requires { IsRest (chars text.now) (chars told.now.what.now ++ chars told.now.behind.now) }
-    ensures { IfOk result (λ own. IsFaultOf text.now (told_view told.now) (fault_of own)) }
+// A fault of a text, with what may be meant.
+fn hinted(alloc: Global, text: &str, fault: &FaultAt<'_>) -> Result<TextFault, AllocError>
+    requires { IsRest (chars text.now)
+        (chars fault.now.what.now ++ chars fault.now.behind.now) }
+    ensures { IfOk result (λ own. IsFaultOf text.now (fault_view fault.now) (fault_of own)) }
 {
-    let hint = hint_for(alloc, text, told.flaw, told.found)?;
-    let found = owned(alloc, found_text(told))?;
-    let end = size(text) - size(told.behind);
-    let begin = end - size(told.what);
+    let hint = hint_of(alloc, text, fault.flaw, fault.found)?;
+    let found = String::from_str(alloc, found_text(fault))?;
+    let end = size(text) - size(fault.behind);
+    let begin = end - size(fault.what);
     Ok(TextFault {
         begin,
         end,
         kind: TextFaultKind::Filter {
-            flaw: told.flaw,
+            flaw: fault.flaw,
             found,
             hint,
         },
     })
 }
 
-// What may be meant by what is found.
-fn hint_for(
-    alloc: Global,
-    text: &str,
-    flaw: FilterFlaw,
-    found: &str,
-) -> Result<Option<String>, AllocError>
-    ensures { IfOk result (λ hint. IsHint text.now flaw (encode_utf8_all (chars found.now))
-        (option_map string_bytes hint)) }
-{
-    hint_of(alloc, text, flaw, found)
-}
-
 // What is found, or in which words a regular expression is refused.
-fn found_text<'a>(told: &Told<'a>) -> &'a str
-    ensures { found_of told.now.flaw (encode_utf8_all (chars result.now))
-        ≡ found_of told.now.flaw (encode_utf8_all (chars told.now.found.now)) }
+fn found_text<'a>(fault: &FaultAt<'a>) -> &'a str
+    ensures { found_of fault.now.flaw (encode_utf8_all (chars result.now))
+        ≡ found_of fault.now.flaw (encode_utf8_all (chars fault.now.found.now)) }
 {
-    match told.flaw {
-        FilterFlaw::InvalidRegex => told.words,
-        _ => told.found,
+    match fault.flaw {
+        FilterFlaw::InvalidRegex => fault.words,
+        _ => fault.found,
     }
 }

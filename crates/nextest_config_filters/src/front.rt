@@ -2,7 +2,9 @@
 
 ghost use Rattle.std.specs.Prelude.{◌≡◌, ◌++◌, ℕ, [], ◌∷◌, List, MatchOption, chars, drop, length};
 ghost use Rattle.std.specs.Str.{drop_trailing_whitespace as without_spaces_behind, skip_leading_whitespace as behind_spaces};
-ghost use Rattle.nextest_config_filters.specs.Front.{begins, begins_key, begins_word, behind, behind_run, behind_standing, in_run, in_word, is_blank, is_doubled, IsFront, IsRest, only_blanks, run, standing, without_first};
+ghost use Rattle.nextest_config_filters.specs.Front.{begins, begins_key, begins_with_space, begins_word, behind, behind_run, behind_standing, in_run, in_word, is_blank, is_doubled, IsFront, IsRest, only_blanks, run, standing, without_first};
+
+use crate::pieces::{Piece, behind_pieces};
 
 /// The first character of a text, and what stands behind it.
 #[tactic(auto, using(std::proofs::lemmas::Str::chars_past_char))]
@@ -106,32 +108,27 @@ pub(crate) fn split_run(text: &str, kind: Run) -> (&str, &str)
 pub(crate) fn behind_run(text: &str, kind: Run) -> &str
     ensures { chars result.now ≡ behind_run (in_run kind) (chars text.now) }
 {
-    let mut rest = text;
-    while let Some((c, following)) = split_first(rest) {
-        if !kind.has(c) {
-            break;
-        }
-        rest = following;
-    }
-    rest
+    behind_pieces(text, Piece::Of(kind))
 }
 
 /// Whether all spaces at the front are blanks.
 pub(crate) fn only_blanks(text: &str) -> bool
     ensures { result ≡ only_blanks (chars text.now) }
 {
-    let mut rest = text;
-    while let Some((c, following)) = split_first(rest) {
-        if !is_blank(c, following) {
-            return !c.is_whitespace();
-        }
-        rest = following;
-    }
-    true
+    !begins_with_space(behind_pieces(text, Piece::Blank))
 }
 
-// Whether nextest takes a character before this text for a space.
-fn is_blank(c: char, following: &str) -> bool
+fn begins_with_space(text: &str) -> bool
+    ensures { result ≡ begins_with_space (chars text.now) }
+{
+    match split_first(text) {
+        Some((c, _)) => c.is_whitespace(),
+        None => false,
+    }
+}
+
+/// Whether nextest takes a character before this text for a space.
+pub(crate) fn is_blank(c: char, following: &str) -> bool
     ensures { result ≡ is_blank c (chars following.now) }
 {
     c == ' ' || c == '\n' || (c == '\r' && begins(following, '\n'))

@@ -2,9 +2,9 @@
 
 ghost use Rattle.std.specs.Prelude.{◌≡◌, ℕ, List, chars};
 ghost use Rattle.std.specs.Str.{IsUtf8};
-ghost use Rattle.nextest_config_filters.specs.Fault.{Fault};
-ghost use Rattle.nextest_config_filters.specs.Filter.{IsFilterFault, IsRangeIn};
-ghost use Rattle.nextest_config_filters.specs.Grammar.{IsDocumentedFilter};
+ghost use Rattle.nextest_config_filters.specs.Fault.{Fault, IsRangeIn};
+ghost use Rattle.nextest_config_filters.specs.Filter.Fault.{IsFilterFault};
+ghost use Rattle.nextest_config_filters.specs.Filter.Grammar.{IsDocumentedFilter};
 ghost use Rattle.nextest_config_filters.specs.Platform.Fault.{IsPlatformFault};
 ghost use Rattle.nextest_config_filters.specs.Platform.Grammar.{IsDocumentedPlatform};
 ghost use Rattle.nextest_config_filters.specs.declared.filter.FilterPlace.{FilterPlace};
@@ -21,7 +21,7 @@ pub fn law_filter_range()
         → IsUtf8 text → IsFilterFault place text fault → IsRangeIn text fault.begin fault.end }
 {}
 
-/// Nothing is told of a filter that nextest documents.
+/// Nothing is reported of a filter that nextest documents.
 pub fn law_documented_filter()
     ensures { (place : FilterPlace) (text : List ℕ) (fault : Fault)
         → IsDocumentedFilter place (chars text) → ¬ IsFilterFault place text fault }
@@ -39,7 +39,7 @@ pub fn law_platform_range()
         → IsUtf8 text → IsPlatformFault text fault → IsRangeIn text fault.begin fault.end }
 {}
 
-/// Nothing is told of a platform that is documented.
+/// Nothing is reported of a platform that is documented.
 pub fn law_documented_platform()
     ensures { (text : List ℕ) (fault : Fault)
         → IsDocumentedPlatform (chars text) → ¬ IsPlatformFault text fault }

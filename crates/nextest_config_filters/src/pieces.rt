@@ -2,10 +2,76 @@
 
 ghost use Rattle.std.specs.Prelude.{◌≡◌, ◌∷◌, MatchOption, chars};
 ghost use Rattle.toml_spans.specs.Characters.{backslash};
-ghost use Rattle.nextest_config_filters.specs.Pieces.{IsEnd, IsPiece, IsRegexPiece, IsTextEnd, regex_end};
+ghost use Rattle.nextest_config_filters.specs.Filter.Predicate.{behind_nots};
+ghost use Rattle.nextest_config_filters.specs.Front.{behind_blanks, behind_run, in_run};
+ghost use Rattle.nextest_config_filters.specs.Pieces.{behind_pieces, IsBehindPiece, IsEnd, IsPiece, IsTextEnd, regex_end};
 
 use crate::escape::is_unknown_escape;
-use crate::front::{begins, split_first};
+use crate::front::{Run, begins, behind, is_blank, split_first};
+
+/// What a text is gone through by.
+#[derive(Clone, Copy, Debug, PartialEq, Eq)]
+pub(crate) enum Piece {
+    /// A character of a run.
+    Of(Run),
+    /// A space that nextest takes for one.
+    Blank,
+    /// The word `not`.
+    Not,
+    /// A character of a regular expression, or a backslash and the one behind it.
+    Regex,
+}
+
+/// What stands behind all pieces of a kind at the front.
+pub(crate) fn behind_pieces(text: &str, kind: Piece) -> &str
+    ensures { chars result.now ≡ behind_pieces kind (chars text.now) }
+{
+    let mut rest = text;
+    while let Some(following) = behind_piece(rest, kind) {
+        rest = following;
+    }
+    rest
+}
+
+// What stands behind the next piece of a kind.
+fn behind_piece(text: &str, kind: Piece) -> Option<&str>
+    ensures { MatchOption result (behind_pieces kind (chars text.now) ≡ chars text.now)
+        (λ rest. IsBehindPiece (behind_pieces kind) (chars text.now) (chars rest.now)) }
+{
+    match kind {
+        Piece::Of(run) => behind_character(text, run),
+        Piece::Blank => behind_blank(text),
+        Piece::Not => behind_not(text),
+        Piece::Regex => behind_regex_piece(text),
+    }
+}
+
+fn behind_character(text: &str, kind: Run) -> Option<&str>
+    ensures { MatchOption result (behind_run (in_run kind) (chars text.now) ≡ chars text.now)
+        (λ rest. IsBehindPiece (behind_run (in_run kind)) (chars text.now) (chars rest.now)) }
+{
+    let (c, following) = split_first(text)?;
+    if kind.has(c) { Some(following) } else { None }
+}
+
+fn behind_blank(text: &str) -> Option<&str>
+    ensures { MatchOption result (behind_blanks (chars text.now) ≡ chars text.now)
+        (λ rest. IsBehindPiece behind_blanks (chars text.now) (chars rest.now)) }
+{
+    let (c, following) = split_first(text)?;
+    if is_blank(c, following) {
+        Some(following)
+    } else {
+        None
+    }
+}
+
+fn behind_not(text: &str) -> Option<&str>
+    ensures { MatchOption result (behind_nots (chars text.now) ≡ chars text.now)
+        (λ rest. IsBehindPiece behind_nots (chars text.now) (chars rest.now)) }
+{
+    behind(text, "not")
+}
 
 /// Where a text ends.
 #[derive(Clone, Copy, Debug)]
@@ -63,21 +129,10 @@ fn behind_escape(text: &str) -> Option<&str>
     }
 }
 
-/// Where a regular expression ends: at its second `/`, or at a pair of backslashes before a `/`.
-pub(crate) fn regex_end(text: &str) -> &str
-    ensures { chars result.now ≡ regex_end (chars text.now) }
-{
-    let mut rest = text;
-    while let Some(following) = behind_regex_piece(rest) {
-        rest = following;
-    }
-    rest
-}
-
-// What stands behind the next piece of a regular expression.
+// A regular expression ends at its second `/`, or at a pair of backslashes before a `/`.
 fn behind_regex_piece(text: &str) -> Option<&str>
     ensures { MatchOption result (regex_end (chars text.now) ≡ chars text.now)
-        (λ rest. IsRegexPiece (chars text.now) (chars rest.now)) }
+        (λ rest. IsBehindPiece regex_end (chars text.now) (chars rest.now)) }
 {
     match split_first(text)? {
         ('/', _) => None,
@@ -86,11 +141,11 @@ fn behind_regex_piece(text: &str) -> Option<&str>
     }
 }
 
-// What stands behind the character behind a backslash; nothing where that is one, too, before a `/`.
+// What stands behind the character behind a backslash; nothing where that is one, before a `/`.
 fn behind_pair(text: &str) -> Option<&str>
     ensures { MatchOption result
         (regex_end (backslash ∷ chars text.now) ≡ backslash ∷ chars text.now)
-        (λ rest. IsRegexPiece (backslash ∷ chars text.now) (chars rest.now)) }
+        (λ rest. IsBehindPiece regex_end (backslash ∷ chars text.now) (chars rest.now)) }
 {
     match split_first(text) {
         Some((c, following)) if c == '\\' && begins(following, '/') => None,

@@ -1,10 +1,10 @@
 //! Texts: how long they are, which are the same, and copies of them.
 
-ghost use Rattle.std.specs.Prelude.{◌≡◌, IfOk, chars, encode_utf8_all, map, nat_eq, string_bytes};
+ghost use Rattle.std.specs.Prelude.{◌≡◌, IfOk, chars, map, nat_eq, option_map, string_bytes};
 ghost use Rattle.std.specs.Cmp.Lexicographic.{pointwise};
 ghost use Rattle.nextest_config_values.specs.Read.{words_of};
 ghost use Rattle.nextest_config_filters.specs.Front.{bytes_of};
-ghost use Rattle.nextest_config_filters.specs.Platform.Key.{is_one_of};
+ghost use Rattle.nextest_config_filters.specs.Text.{is_one_of};
 
 use std::alloc::{AllocError, Global};
 
@@ -16,13 +16,15 @@ pub(crate) fn size(text: &str) -> usize
     text.len()
 }
 
-/// The text as one of its own.
-#[tactic(auto, using(crate::proofs::Characters::utf8_of_chars))]
-pub(crate) fn owned(alloc: Global, text: &str) -> Result<String, AllocError>
-    ensures { IfOk result (λ owned. string_bytes owned ≡ encode_utf8_all (chars text.now)) }
+/// The text as one of its own, where there is one.
+pub(crate) fn owned(alloc: Global, text: Option<&str>) -> Result<Option<String>, AllocError>
+    ensures { IfOk result (λ owned. option_map string_bytes owned
+        ≡ option_map (λ text. text.now) text.entry) }
 {
-    let owned = String::from_str(alloc, text)?;
-    Ok(owned)
+    match text {
+        Some(text) => Ok(Some(String::from_str(alloc, text)?)),
+        None => Ok(None),
+    }
 }
 
 /// Whether two texts have the same characters.

@@ -23,7 +23,7 @@ use Rattle.nextest_config_values.specs.Read.{FaultOrMemory}
 use Rattle.std.specs.Prelude.{chars}
 use Rattle.nextest_config_values.specs.Identifier.Laws.{one_identifier_or_fault}
 use Rattle.nextest_config_lint.specs.Defined.{AddsNames, AreDocuments, AreNamesOf, DefinesNamed, file_of, HasTool, keys_of, ListFile, SomeOf}
-use Rattle.nextest_config_lint.specs.References.{IsUndefined}
+use Rattle.nextest_config_lint.specs.References.Names.{IsUndefined}
 use Rattle.nextest_config_lint.specs.Settings.{names_of}
 use Rattle.nextest_config_lint.specs.declared.defined.ListedFile.{ListedFile}
 use Rattle.nextest_config_elements.specs.declared.named.NamedKind.{NamedKind}
@@ -136,7 +136,7 @@ has_iff keys name answer is =
 
 -- ---- what isn't defined
 
-pub not_kept : (key : List ℕ) (told : Option (NameFault IdentifierFlaw)) (of_memory : Type 0) → IsSome told → FaultOrMemory told of_memory (IsIdentifierFault key) → (name : List ℕ) → IsIdentifier key name → ⊥
+pub not_kept : (key : List ℕ) (reported : Option (NameFault IdentifierFlaw)) (of_memory : Type 0) → IsSome reported → FaultOrMemory reported of_memory (IsIdentifierFault key) → (name : List ℕ) → IsIdentifier key name → ⊥
 not_kept key None of_memory some refused name is = true≢false (sym some)
 not_kept key (Some fault) of_memory some refused name is = one_identifier_or_fault.never_both key name fault is refused
 

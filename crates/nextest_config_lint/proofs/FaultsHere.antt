@@ -263,7 +263,7 @@ retries_at_key (Some Exponential) held fault (inr (kept, inr (also, inr (too, ((
 
 table_rules_at_key : (rules : Rules) (held : Members) (fault : Fault) → (rules_check rules).faults (table held) fault → StandsAtKey held fault
 table_rules_at_key rules_of.Versions held fault out =
-    at_rule_key held (required_above_recommended out.required out.recommended) recommended_key fault refl out.is (optional_there recommended_key version_reading held out.recommended out.recommended_there)
+    at_rule_key held (required_above_recommended out.required out.recommended) recommended_key fault refl out.is (optional_there recommended_key version_reading held out.recommended out.there.1)
 table_rules_at_key rules_of.Retries held fault wrong = retries_at_key (backoff_in held) held fault wrong
 
 -- and so is a rule between the keys of a value

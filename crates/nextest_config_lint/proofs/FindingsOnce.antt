@@ -13,14 +13,15 @@ use Rattle.nextest_config.specs.declared.nextest_version.source.ConfigSourceKind
 use Rattle.nextest_config.specs.declared.nextest_version.source.ConfigSourceKind.TheVariants.{Tool}
 use Rattle.nextest_config_values.specs.NearestWord.{nearest_once}
 use Rattle.toml_spans.specs.Step.{index, key, PathStep}
-use Rattle.nextest_config_lint.proofs.ReferencesFound.{IsAtPath, meant_once, reference_at, reference_once}
+use Rattle.nextest_config_lint.proofs.ReferencesFound.{IsAtPath, suggestion_once, reference_at, reference_once}
 use Rattle.nextest_config_lint.specs.Defined.{file_with, ListFile}
 use Rattle.nextest_config_lint.specs.Document.{AreFindings, keys_of_document}
 use Rattle.nextest_config_lint.specs.Faults.{IsFoundKind, IsFoundOf}
 use Rattle.nextest_config_lint.specs.Features.{AreNamedFound, AreToolsFound, IsNameFound, IsStepTo}
 use Rattle.nextest_config_lint.specs.FindingsLaws.{own_findings}
-use Rattle.nextest_config_lint.specs.Found.{AreFoundIn, AreFoundOf, Found, found_at, FoundKind, Meant, refused, tool_names, unknown_key, unknown_name}
-use Rattle.nextest_config_lint.specs.References.{FileInList, in_list, IsReferenceFound}
+use Rattle.nextest_config_lint.specs.Found.{AreFoundIn, AreFoundOf, Found, found_at, FoundKind, Suggestion, refused, tool_names, unknown_key, unknown_name}
+use Rattle.nextest_config_lint.specs.References.JudgedFile.{FileInList, in_list}
+use Rattle.nextest_config_lint.specs.References.{IsReferenceFound}
 use Rattle.nextest_config_lint.specs.Settings.{a_value, absent_key, between, features_at, is_known, refused_key, settings_of, SettingView, Subject}
 use Rattle.nextest_config_lint.specs.Subjects.{IsLeftOpen, NamesFeatures}
 use Rattle.nextest_config_lint.proofs.Subjects.{named_not_right, named_not_wrong, never_wrong, one_text_fault, one_wrong}
@@ -29,7 +30,7 @@ use Rattle.nextest_config_elements.specs.declared.field.Shape.TheVariants as sha
 use Rattle.nextest_config_lint.proofs.WrittenHints.{written_once}
 use Rattle.nextest_config_lint.specs.Hints.{IsHintAt, IsHintOf, IsLimitHint, IsValueHint, unknown_word_in}
 use Rattle.nextest_config_lint.specs.Hints.Durations.{digits_of, IsDurationHint, IsEitherHint, IsSecondsHint, IsShortHint}
-use Rattle.nextest_config_lint.specs.Unknown.{IsHintFor, IsKeyFound, IsKeyFoundFor, meant_beside, TableKey}
+use Rattle.nextest_config_lint.specs.Unknown.{IsHintFor, IsKeyFound, IsKeyFoundFor, suggested_beside, TableKey}
 use Rattle.nextest_config_lint.specs.Severity.{IsSeverity}
 use Rattle.nextest_config_lint.specs.declared.finding.FindingSeverity.{FindingSeverity}
 use Rattle.nextest_config_lint.specs.Values.{accepted, AreFaults, AreFaultsFound, AreFeatures, AreFeaturesFound, AreFoundBy, AreNotes, AreNotesFound, faulty, IsOutcome, left_open, miswritten, names_features, Outcome}
@@ -102,54 +103,54 @@ severity_once setting fault a b (inl h) (inr k) = absurd (k.0 h.0)
 severity_once setting fault a b (inr h) (inl k) = absurd (h.0 k.0)
 severity_once setting fault a b (inr h) (inr k) = h.1 ∙ sym k.1
 
-seconds_once : (digits : List ℕ) (a b : Option Meant) → IsSecondsHint digits a → IsSecondsHint digits b → a ≡ b
+seconds_once : (digits : List ℕ) (a b : Option Suggestion) → IsSecondsHint digits a → IsSecondsHint digits b → a ≡ b
 seconds_once digits a b (inl h) (inl k) = h.1 ∙ sym k.1
 seconds_once digits a b (inl h) (inr k) = absurd (k.0 h.0)
 seconds_once digits a b (inr h) (inl k) = absurd (h.0 k.0)
 seconds_once digits a b (inr h) (inr k) = h.1 ∙ sym k.1
 
-duration_once : (digits : Option (List ℕ)) (a b : Option Meant) → IsDurationHint digits a → IsDurationHint digits b → a ≡ b
+duration_once : (digits : Option (List ℕ)) (a b : Option Suggestion) → IsDurationHint digits a → IsDurationHint digits b → a ≡ b
 duration_once None a b h k = h ∙ sym k
 duration_once (Some digits) a b h k = seconds_once digits a b h k
 
-either_once : (digits : List ℕ) (a b : Option Meant) → IsEitherHint digits a → IsEitherHint digits b → a ≡ b
+either_once : (digits : List ℕ) (a b : Option Suggestion) → IsEitherHint digits a → IsEitherHint digits b → a ≡ b
 either_once digits a b (inl h) (inl k) = h.1 ∙ sym k.1
 either_once digits a b (inl h) (inr k) = absurd (k.0 h.0)
 either_once digits a b (inr h) (inl k) = absurd (h.0 k.0)
 either_once digits a b (inr h) (inr k) = seconds_once digits a b h.1 k.1
 
-short_once : (digits : Option (List ℕ)) (a b : Option Meant) → IsShortHint digits a → IsShortHint digits b → a ≡ b
+short_once : (digits : Option (List ℕ)) (a b : Option Suggestion) → IsShortHint digits a → IsShortHint digits b → a ≡ b
 short_once None a b h k = h ∙ sym k
 short_once (Some digits) a b h k = either_once digits a b h k
 
-limit_once : (count : Option ℤ) (text : Option (List ℕ)) (a b : Option Meant) → IsLimitHint count text a → IsLimitHint count text b → a ≡ b
+limit_once : (count : Option ℤ) (text : Option (List ℕ)) (a b : Option Suggestion) → IsLimitHint count text a → IsLimitHint count text b → a ≡ b
 limit_once None text a b h k = written_once shapes.FailFast text a b h k
 limit_once (Some number) text a b h k = h ∙ sym k
 
-meant_at_once : (path : List PathStep) (shape : Shape) (value : Data) (a b : Option Meant) → IsHintAt path shape value a → IsHintAt path shape value b → a ≡ b
-meant_at_once path shapes.SlowTimeout value a b h k = duration_once (digits_of value) a b h k
-meant_at_once path shapes.Duration value a b h k = duration_once (digits_of value) a b h k
-meant_at_once path shapes.LeakTimeout value a b h k = short_once (digits_of value) a b h k
-meant_at_once path shapes.ShortDuration value a b h k = short_once (digits_of value) a b h k
-meant_at_once path shapes.FailFast value a b h k = limit_once (as_integer value) (as_str value) a b h k
-meant_at_once path shapes.Array value a b h k = h ∙ sym k
-meant_at_once path shape value a b h k = written_once shape (as_str value) a b h k
+suggestion_at_once : (path : List PathStep) (shape : Shape) (value : Data) (a b : Option Suggestion) → IsHintAt path shape value a → IsHintAt path shape value b → a ≡ b
+suggestion_at_once path shapes.SlowTimeout value a b h k = duration_once (digits_of value) a b h k
+suggestion_at_once path shapes.Duration value a b h k = duration_once (digits_of value) a b h k
+suggestion_at_once path shapes.LeakTimeout value a b h k = short_once (digits_of value) a b h k
+suggestion_at_once path shapes.ShortDuration value a b h k = short_once (digits_of value) a b h k
+suggestion_at_once path shapes.FailFast value a b h k = limit_once (as_integer value) (as_str value) a b h k
+suggestion_at_once path shapes.Array value a b h k = h ∙ sym k
+suggestion_at_once path shape value a b h k = written_once shape (as_str value) a b h k
 
-value_hint_once : (unknown_word : Option (List ℕ × List (List ℕ))) (path : List PathStep) (shape : Shape) (value : Data) (a b : Option Meant)
+value_hint_once : (unknown_word : Option (List ℕ × List (List ℕ))) (path : List PathStep) (shape : Shape) (value : Data) (a b : Option Suggestion)
     → IsValueHint unknown_word path shape value a → IsValueHint unknown_word path shape value b → a ≡ b
-value_hint_once (Some (name, known)) path shape value a b h k = meant_once known name a b h k
-value_hint_once None path shape value a b h k = meant_at_once path shape value a b h k
+value_hint_once (Some (name, known)) path shape value a b h k = suggestion_once known name a b h k
+value_hint_once None path shape value a b h k = suggestion_at_once path shape value a b h k
 
-hint_of_once : (path : List PathStep) (subject : Subject) (fault : Fault) (a b : Option Meant) → IsHintOf path subject fault a → IsHintOf path subject fault b → a ≡ b
+hint_of_once : (path : List PathStep) (subject : Subject) (fault : Fault) (a b : Option Suggestion) → IsHintOf path subject fault a → IsHintOf path subject fault b → a ≡ b
 hint_of_once path (a_value shape parts value) fault a b h k = value_hint_once (unknown_word_in fault.cause) path shape value a b h k
-hint_of_once path (refused_key name expected known) fault a b h k = meant_once known name a b h k
+hint_of_once path (refused_key name expected known) fault a b h k = suggestion_once known name a b h k
 hint_of_once path (absent_key name) fault a b h k = h ∙ sym k
 hint_of_once path (between rules value) fault a b h k = h ∙ sym k
 hint_of_once path (features_at value) fault a b h k = h ∙ sym k
 
 one_kind : (setting : SettingView) (fault : Fault) (reason : Reason) (a b : FoundKind) → IsFoundKind setting fault reason a → IsFoundKind setting fault reason b → a ≡ b
 one_kind setting fault reason a b (severity, hint, grave, meant, is) (other, hint_too, grave_too, meant_too, is_too) =
-    is ∙ ap₂ (λ (s : FindingSeverity) (h : Option Meant). refused reason s h) (severity_once setting fault severity other grave grave_too)
+    is ∙ ap₂ (λ (s : FindingSeverity) (h : Option Suggestion). refused reason s h) (severity_once setting fault severity other grave grave_too)
     (hint_of_once setting.path setting.subject fault hint hint_too meant meant_too) ∙ sym is_too
 
 one_found : (setting : SettingView) (fault : Fault) (a b : Found) → IsFoundOf setting fault a → IsFoundOf setting fault b → a ≡ b
@@ -165,13 +166,13 @@ faults_once setting (left_open fault) a b h k = h ∙ sym k
 
 -- ---- of a key
 
-hint_once : (known : List (List ℕ)) (path : List PathStep) (name : List ℕ) (a b : Option Meant) → IsHintFor known path name a → IsHintFor known path name b → a ≡ b
-hint_once known path name a b (near, nearest, is) (other, also, is_too) = is ∙ ap (meant_beside known path name) (nearest_once known name near other nearest also) ∙ sym is_too
+hint_once : (known : List (List ℕ)) (path : List PathStep) (name : List ℕ) (a b : Option Suggestion) → IsHintFor known path name a → IsHintFor known path name b → a ≡ b
+hint_once known path name a b (near, nearest, is) (other, also, is_too) = is ∙ ap (suggested_beside known path name) (nearest_once known name near other nearest also) ∙ sym is_too
 
 key_once : (is : Bool) (setting : TableKey) (a b : Option Found) → IsKeyFoundFor is setting a → IsKeyFoundFor is setting b → a ≡ b
 key_once true setting a b h k = h ∙ sym k
 key_once false setting a b (hint, meant, is) (other, also, is_too) =
-    is ∙ ap (λ (h : Option Meant). Some (found_at setting.path (unknown_key setting.name h)))
+    is ∙ ap (λ (h : Option Suggestion). Some (found_at setting.path (unknown_key setting.name h)))
     (hint_once setting.known setting.path setting.name hint other meant also) ∙ sym is_too
 
 -- ---- of features
@@ -190,8 +191,8 @@ step_once value name (key text) (key other) h k = ap key (h.1 ∙ sym k.1)
 
 name_once : (path : List PathStep) (value : Data) (name : List ℕ) (a b : Option Found) → IsNameFound path value name a → IsNameFound path value name b → a ≡ b
 name_once path value name a b (step, hint, leads, nearest, is) (other, hint_too, leads_too, nearest_too, is_too) =
-    is ∙ ap₂ (λ (s : PathStep) (h : Option Meant). Some (found_at (path ++ (s ∷ [])) (unknown_name name h)))
-    (step_once value name step other leads leads_too) (meant_once (map word_of all_features) name hint hint_too nearest nearest_too) ∙ sym is_too
+    is ∙ ap₂ (λ (s : PathStep) (h : Option Suggestion). Some (found_at (path ++ (s ∷ [])) (unknown_name name h)))
+    (step_once value name step other leads leads_too) (suggestion_once (map word_of all_features) name hint hint_too nearest nearest_too) ∙ sym is_too
 
 tools_once : (path : List PathStep) (features : Features) (a b : List Found) → AreToolsFound path features a → AreToolsFound path features b → a ≡ b
 tools_once path features a b (inl h) (inl k) = h.1 ∙ sym k.1

@@ -1,7 +1,7 @@
 -- What is found of each element of a list.
 use Rattle.std.proofs.Common.{List, [], ◌∷◌, ◌++◌, Option, Some, append_assoc, append-nil, map, option_to_list, refl, sym}
 use Rattle.std.proofs.lemmas.List.{map-append, map_push}
-use Rattle.nextest_config_lint.specs.Found.{AddsFound, AddsOne, AreFoundIn, Found, found_of, Tells}
+use Rattle.nextest_config_lint.specs.Found.{AddsFound, AddsOne, AreFoundIn, Found, found_of, Reports}
 use Rattle.nextest_config_lint.specs.declared.finding.Finding.{Finding}
 
 -- what is found of lists in a row
@@ -13,9 +13,9 @@ found_in_both IsFound (x ∷ xs) ys all_found later (here, rest, is, rest_are, w
     (here, rest ++ later, is, behind, rw whole (append_assoc (option_to_list here) rest later))
 
 -- what lists of findings in a row tell
-pub told_in_both : (findings more : List Finding) (all_found later : List Found)
-    → Tells findings all_found → Tells more later → Tells (findings ++ more) (all_found ++ later)
-told_in_both findings more all_found later told too = rw (map-append found_of findings more, map-append Some all_found later, told, too) refl
+pub reported_in_both : (findings more : List Finding) (all_found later : List Found)
+    → Reports findings all_found → Reports more later → Reports (findings ++ more) (all_found ++ later)
+reported_in_both findings more all_found later reported too = rw (map-append found_of findings more, map-append Some all_found later, reported, too) refl
 
 -- ---- findings that come after others
 

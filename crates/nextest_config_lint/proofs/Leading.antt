@@ -18,7 +18,7 @@ use Rattle.nextest_config.specs.declared.nextest_version.source.ConfigSourceKind
 use Rattle.nextest_config.specs.declared.nextest_version.source.ConfigSourceKind.TheVariants.{Tool}
 use Rattle.toml_spans.proofs.Elements.{all_joined}
 use Rattle.nextest_config_lint.proofs.FaultsHere.{IsAtKey, IsHere, rules_at_key, shape_here}
-use Rattle.nextest_config_lint.proofs.ReferencesFound.{reference_at, told_leads}
+use Rattle.nextest_config_lint.proofs.ReferencesFound.{reference_at, reported_leads}
 use Rattle.nextest_config_lint.proofs.Keys.{names_have}
 use Rattle.nextest_config_lint.specs.Defined.{file_with, ListFile}
 use Rattle.nextest_config_lint.specs.Document.{AreFindings, keys_of_document}
@@ -26,7 +26,8 @@ use Rattle.nextest_config_lint.specs.Features.{AreToolsFound, features_text, IsN
 use Rattle.nextest_config_lint.specs.File.{key_in, reason_key}
 use Rattle.nextest_config_lint.specs.FindingsLaws.{LeadsToValue}
 use Rattle.nextest_config_lint.specs.Found.{AreFoundIn, AreFoundOf, deprecated_array, Found, found_at, FoundKind}
-use Rattle.nextest_config_lint.specs.References.{FileInList, in_list, IsReferenceFound, IsSubjectTold, steps_to, told_below}
+use Rattle.nextest_config_lint.specs.References.JudgedFile.{FileInList, in_list}
+use Rattle.nextest_config_lint.specs.References.{IsReferenceFound, IsSubjectReported, steps_to, placed_below}
 use Rattle.nextest_config_lint.specs.Settings.{a_value, absent_key, and_rules, at_items, at_key, at_names, between, by_kind, Collecting, expected_by, features_at, has_default_period, if_there, in_array, in_table, is_known, names_of, of_name, of_retries, setting_at, settings_below, settings_in, settings_of, settings_of_fields, SettingView, Subject, refused_key, with_parts}
 use Rattle.nextest_config_lint.specs.Subjects.{IsLeftOpen, IsWrong, NamesFeatures}
 use Rattle.nextest_config_elements.specs.Fields.{field, field_words, Fields, KeyRule, no_fields, nothing, Parts, within}
@@ -469,19 +470,19 @@ steps_lead top (key text ∷ rest) steps value is = on_from rest steps value (ge
 steps_lead top (index place ∷ rest) steps value is = absurd (none-some value is)
 
 -- what is told of a value stands at something in it
-told_there : (at : FileInList) (top : Members) (path : List PathStep) (subject : Subject) (told : FoundKind) → IsSubjectTold at path subject (Some told) → IsPlacedAt top path subject
-    → IsSome (found_in top (path ++ steps_to told))
-told_there at top path (a_value shape parts value) told is placed = rw (steps_lead top path (steps_to told) value placed) (told_leads at path shape value told is)
-told_there at top path subject told is placed = absurd (cc is)
+reported_there : (at : FileInList) (top : Members) (path : List PathStep) (subject : Subject) (reported : FoundKind) → IsSubjectReported at path subject (Some reported) → IsPlacedAt top path subject
+    → IsSome (found_in top (path ++ steps_to reported))
+reported_there at top path (a_value shape parts value) reported is placed = rw (steps_lead top path (steps_to reported) value placed) (reported_leads at path shape value reported is)
+reported_there at top path subject reported is placed = absurd (cc is)
 
 references_lead : (at : FileInList) (top : Members) (setting : SettingView) (here : Option Found) → IsPlaced top setting → IsReferenceFound at setting here
     → AllByRecursion (LeadsToValue top) (option_to_list here)
 references_lead at top setting None placed is = tt
-references_lead at top setting (Some found) placed (None, told, is) = absurd (cc is)
-references_lead at top setting (Some found) placed (Some said, told, is) =
-    let there = reference_at at setting (Some found) (Some said, told, is) in
-    let same : found ≡ told_below setting.path said = same_Some found (told_below setting.path said) is in
-    (rw (there.2, same) (told_there at top setting.path setting.subject said told placed), tt)
+references_lead at top setting (Some found) placed (None, reported, is) = absurd (cc is)
+references_lead at top setting (Some found) placed (Some said, reported, is) =
+    let there = reference_at at setting (Some found) (Some said, reported, is) in
+    let same : found ≡ placed_below setting.path said = same_Some found (placed_below setting.path said) is in
+    (rw (there.2, same) (reported_there at top setting.path setting.subject said reported placed), tt)
 
 -- ---- of all
 

@@ -26,7 +26,7 @@ pub mod RightValues
 pub mod SettingsRead
 pub mod Subjects
 pub mod TextRanges
-pub mod ToldReferences
+pub mod ReportedReferences
 pub mod NoErrorFiles
 pub mod NoErrorReads
 pub mod NoErrors

@@ -62,9 +62,9 @@ module _ (profile : List ℕ) where
       here none None is = inl (is, none)
       here none (Some value) is = inr (0, value, record { before = []; file = file; after = files; whole = refl; place = refl; here = is; none_after = none })
 
-  told : (position : ℕ) (text : Option (List ℕ)) (link : LinkView) → option_map (link_at position) text ≡ Some link → (position ≡ link.position) × (text ≡ Some link.parent)
-  told position None link is = absurd (cc is)
-  told position (Some parent) link is =
+  reported : (position : ℕ) (text : Option (List ℕ)) (link : LinkView) → option_map (link_at position) text ≡ Some link → (position ≡ link.position) × (text ≡ Some link.parent)
+  reported position None link is = absurd (cc is)
+  reported position (Some parent) link is =
       let same : link_at position parent ≡ link = cc is in
       (ap (λ (l : LinkView). l.position) same, ap (λ (l : LinkView). Some l.parent) same)
 
@@ -75,7 +75,7 @@ module _ (profile : List ℕ) where
       elim (some_counts files) [
         | inl none ↦ absurd (cc (is, none_after 0 files None none))
         | inr (position, value, counting) ↦
-            let (place, text) = told position (as_str value) link (sym (counts files position value counting) ∙ is) in
+            let (place, text) = reported position (as_str value) link (sym (counts files position value counting) ∙ is) in
             (value, subst (λ (k : ℕ). IsCounting files profile k value) place counting, text)
       ],
     ),
@@ -99,7 +99,7 @@ module _ {files : List ListFile} {profile : List ℕ} where
 
   pub one_place : {link : LinkView} {position : ℕ} {value : Data} → IsLink files profile link → IsCounting files profile position value → link.position ≡ position
   one_place {link} {position} {value} is counting =
-      sym (told profile position (as_str value) link (sym (counts profile files position value counting) ∙ (is_link profile files link is.0).1 is)).0
+      sym (reported profile position (as_str value) link (sym (counts profile files position value counting) ∙ (is_link profile files link is.0).1 is)).0
 
 -- without the link of `default`
 pub all_links : (files : List ListFile) (links : List ℕ → Option LinkView) → ((profile : List ℕ) → links profile ≡ cond (bytes_eq default_profile profile) None (link_after profile 0 files None)) → AreLinksOf files links

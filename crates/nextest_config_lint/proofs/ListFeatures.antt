@@ -132,7 +132,7 @@ fault_said file value fault has faults = record {
   no_table = of_one (HasRefusedFeatures TableOnly) file true (λ _. let also = both_refused value fault faults in (value, also.0, has, also.1), λ _. refl);
 }
 
-pub told_said : (file : ListFile) (value : Data) (told : Option Fault) (of_memory : Type 0) → IsSome told → FaultOrMemory told of_memory ((features_under ArrayAllowed).faults value)
+pub reported_said : (file : ListFile) (value : Data) (reported : Option Fault) (of_memory : Type 0) → IsSome reported → FaultOrMemory reported of_memory ((features_under ArrayAllowed).faults value)
     → HasExperimental file value → AreFeaturesOf (file ∷ []) features_refused
-told_said file value None of_memory some refused has = absurd (true≢false (sym some))
-told_said file value (Some fault) of_memory some refused has = fault_said file value fault has refused
+reported_said file value None of_memory some refused has = absurd (true≢false (sym some))
+reported_said file value (Some fault) of_memory some refused has = fault_said file value fault has refused

@@ -12,7 +12,7 @@ use Rattle.toml.specs.Parse.{parse_document}
 use Rattle.nextest_config.specs.declared.nextest_version.edition.Edition.{Edition}
 use Rattle.nextest_config.specs.declared.nextest_version.source.ConfigSourceKind.{ConfigSourceKind}
 use Rattle.toml_spans.specs.declared.place.Span.{Span}
-use Rattle.nextest_config_lint.proofs.Severities.{severity_told}
+use Rattle.nextest_config_lint.proofs.Severities.{severity_reported}
 use Rattle.nextest_config_lint.proofs.NoErrors.{no_error_in}
 use Rattle.nextest_config_lint.specs.Defined.{ListFile}
 use Rattle.nextest_config_lint.specs.File.{AreInText, AreLocated, AreLocatedIn, IsAlone, IsAtRange}
@@ -31,37 +31,37 @@ reordered before sorted same h = recursion_from_All IsNoLocatedError sorted (All
 
 -- ---- a file that is no document
 
-abbrev first_told : List (Span × Option Found) → Option Found
-first_told [] = None
-first_told (told ∷ rest) = told.1
+abbrev first_reported : List (Span × Option Found) → Option Found
+first_reported [] = None
+first_reported (reported ∷ rest) = reported.1
 
 -- the one finding of a file is an error
 alone_grave : (before front : List ℕ) (kind : FoundKind) → found_severity kind ≡ Error → (located : List LocatedFinding)
     → IsAlone before front kind located → AreNoLocatedErrors located → ⊥
-alone_grave before front kind grave [] is h = cc (is.told)
+alone_grave before front kind grave [] is h = cc (is.reported)
 alone_grave before front kind grave (one ∷ rest) is h =
-    let told : found_of one.finding ≡ Some (found_at [] kind) = ap first_told is.told in
-    let grave_too = severity_told one.finding (found_at [] kind) told in
+    let reported : found_of one.finding ≡ Some (found_at [] kind) = ap first_reported is.reported in
+    let grave_too = severity_reported one.finding (found_at [] kind) reported in
     h.0 (grave_too ∙ grave)
 
 -- ---- the findings of a document
 
 -- located findings are warnings exactly where what they tell is
-told_warned : (contents : List ℕ) (all_found : List Found) (located : List LocatedFinding) → AllZip (IsAtRange contents) all_found located
+reported_warned : (contents : List ℕ) (all_found : List Found) (located : List LocatedFinding) → AllZip (IsAtRange contents) all_found located
     → AreNoLocatedErrors located ↔ AllByRecursion IsNoError all_found
-told_warned contents [] [] at = iff.rfl
-told_warned contents (found ∷ all_found) (one ∷ located) at =
-    let grave = severity_told one.finding found at.0.told in
-    iff.and (λ h is. h (grave ∙ is), λ h is. h (sym grave ∙ is)) (told_warned contents all_found located at.1)
-told_warned contents all_found located at = search rules
+reported_warned contents [] [] at = iff.rfl
+reported_warned contents (found ∷ all_found) (one ∷ located) at =
+    let grave = severity_reported one.finding found at.0.reported in
+    iff.and (λ h is. h (grave ∙ is), λ h is. h (sym grave ∙ is)) (reported_warned contents all_found located at.1)
+reported_warned contents all_found located at = search rules
 
 located_warned : (edition : Edition) (kind : ConfigSourceKind) (files : List ListFile) (position : ℕ) (contents : List ℕ) (members : Members) (located : List LocatedFinding)
     → AreLocatedIn edition kind files position contents members located → AreNoLocatedErrors located ↔ IsWithoutError edition kind members
 located_warned edition kind files position contents members located are =
-    let told = told_warned contents are.all_found are.before are.at_ranges in
+    let reported = reported_warned contents are.all_found are.before are.at_ranges in
     let well = no_error_in edition kind files position members are.all_found are.are_findings in (
-      λ h. well.0 (told.0 (reordered located are.before (IsPermutation-sym are.before located are.sorted.same) h)),
-      λ h. reordered are.before located are.sorted.same (told.1 (well.1 h)),
+      λ h. well.0 (reported.0 (reordered located are.before (IsPermutation-sym are.before located are.sorted.same) h)),
+      λ h. reordered are.before located are.sorted.same (reported.1 (well.1 h)),
     )
 
 -- ---- a file
@@ -70,7 +70,7 @@ in_text_warned : (edition : Edition) (kind : ConfigSourceKind) (files : List Lis
     → AreInText edition kind files position contents read located
     → AreNoLocatedErrors located ↔ ((members : Members) × (read ≡ Some members) × IsWithoutError edition kind members)
 in_text_warned edition kind files position contents None located is = (
-  λ h. absurd (alone_grave _ _ (not_toml is.told.message is.told.mistake) refl located is.told.alone h),
+  λ h. absurd (alone_grave _ _ (not_toml is.reported.message is.reported.mistake) refl located is.reported.alone h),
   λ h. absurd (none-some h.0 h.1),
 )
 in_text_warned edition kind files position contents (Some members) located are =

@@ -65,36 +65,36 @@ all_right_where edition kind (setting ∷ settings) sure well =
 abbrev IsOther : Fault → Type 0
 IsOther fault = IsNoDuration fault.cause → ⊥
 
-told : (reason : Reason) → AllFaults IsOther (λ fault. fault ≡ fault_here (for_reason reason))
-told reason fault is (found, of_duration) = cc (ap (λ (f : Fault). f.cause) is, of_duration)
+reported : (reason : Reason) → AllFaults IsOther (λ fault. fault ≡ fault_here (for_reason reason))
+reported reason fault is (found, of_duration) = cc (ap (λ (f : Fault). f.cause) is, of_duration)
 
 version_held : (held : List ℕ) → AllFaults IsOther (version_text.faults held)
-version_held held fault (rule, broken, is) = told _ fault is
+version_held held fault (rule, broken, is) = reported _ fault is
 
 version : (value : Data) → AllFaults IsOther (version_reading.faults value)
 version (string held) = version_held held
-version value = told _
+version value = reported _
 
 versions_value : (value : Data) → AllFaults IsOther ((or_table (meaning versions_reading)).faults value)
 versions_value (table held) = no_fault IsOther
 versions_value (string held) = version_held held
-versions_value value = told _
+versions_value value = reported _
 
 truth : (value : Data) → AllFaults IsOther (bool_reading.faults value)
 truth (boolean held) = no_fault IsOther
-truth value = told _
+truth value = reported _
 
 feature_name : (edition : Edition) (value : Data) → AllFaults IsOther ((feature_name_check edition).faults value)
 feature_name ArrayAllowed (string held) = no_fault IsOther
-feature_name ArrayAllowed value = told _
+feature_name ArrayAllowed value = reported _
 feature_name TableOnly value = no_fault IsOther
 
 features_value : (edition : Edition) (value : Data) → AllFaults IsOther ((features_check edition).faults value)
 features_value ArrayAllowed (table held) = no_fault IsOther
 features_value ArrayAllowed (array items) = no_fault IsOther
-features_value ArrayAllowed value = told _
+features_value ArrayAllowed value = reported _
 features_value TableOnly (table held) = no_fault IsOther
-features_value TableOnly value = told _
+features_value TableOnly value = reported _
 
 module _ (edition : Edition) where
   value_sure : (path : List PathStep) (shape : Shape) (parts : Parts) (value : Data) → AllFaults IsOther ((shape_check edition shape).faults value)

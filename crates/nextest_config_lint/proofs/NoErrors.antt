@@ -19,7 +19,8 @@ use Rattle.nextest_config_lint.specs.Faults.{IsFoundOf}
 use Rattle.nextest_config_lint.specs.Features.{AreNamedFound, features_text, IsNameFound}
 use Rattle.nextest_config_lint.specs.FindingsLaws.{HasNoErrorAt, IsNoError, IsNoErrorBy, IsNoErrorOf, IsWithoutError}
 use Rattle.nextest_config_lint.specs.Found.{AreFoundIn, AreFoundOf, deprecated_array, Found, found_at}
-use Rattle.nextest_config_lint.specs.References.{FileInList, in_list, IsReferenceFound}
+use Rattle.nextest_config_lint.specs.References.JudgedFile.{FileInList, in_list}
+use Rattle.nextest_config_lint.specs.References.{IsReferenceFound}
 use Rattle.nextest_config_lint.specs.Settings.{is_known, settings_of, SettingView}
 use Rattle.nextest_config_lint.specs.Unknown.{IsKeyFound, IsKeyFoundFor, TableKey}
 use Rattle.nextest_config_lint.specs.Severity.{IsSeverity}

@@ -8,7 +8,7 @@ use Rattle.std.specs.List.{filter}
 use Rattle.std.specs.Ordering.{nat_cmp}
 use Rattle.nextest_config.specs.NextestVersion.SetLaws.{contains_none}
 use Rattle.nextest_config_lint.specs.Defined.{AreNamesOf, DefinesProfile, ListFile}
-use Rattle.nextest_config_lint.specs.References.{IsOtherProfile, is_other}
+use Rattle.nextest_config_lint.specs.References.Profiles.{IsOtherProfile, is_other}
 
 -- ---- elements of a list
 

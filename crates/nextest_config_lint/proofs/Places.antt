@@ -11,7 +11,7 @@ use Rattle.toml_spans.specs.declared.index.Index.{Index}
 use Rattle.toml_spans.specs.declared.place.Span.{Span}
 use Rattle.nextest_config_lint.specs.File.{HasRange, is_of_key, IsAtRange, IsIn, IsLocated, range_at, range_of, whole_path}
 use Rattle.nextest_config_lint.specs.FindingsLaws.{LeadsToValue}
-use Rattle.nextest_config_lint.specs.Found.{Found, Tells}
+use Rattle.nextest_config_lint.specs.Found.{Found, Reports}
 use Rattle.nextest_config_lint.specs.declared.file.LocatedFinding.{LocatedFinding}
 use Rattle.nextest_config_lint.specs.declared.finding.Finding.{Finding}
 
@@ -37,11 +37,11 @@ has_span text None some is = cc some
 -- ---- findings that have a range
 
 -- findings that tell what stands at values of a document are in it
-pub all_in : (top : Members) (findings : List Finding) (all_found : List Found) → Tells findings all_found
+pub all_in : (top : Members) (findings : List Finding) (all_found : List Found) → Reports findings all_found
     → AllByRecursion (LeadsToValue top) all_found → AllByRecursion (IsIn top) findings
-all_in top [] all_found told lead = tt
-all_in top (finding ∷ findings) (found ∷ all_found) told lead = ((found, cc told, lead.0), all_in top findings all_found (cc told) lead.1)
-all_in top (finding ∷ findings) [] told lead = absurd (cc told)
+all_in top [] all_found reported lead = tt
+all_in top (finding ∷ findings) (found ∷ all_found) reported lead = ((found, cc reported, lead.0), all_in top findings all_found (cc reported) lead.1)
+all_in top (finding ∷ findings) [] reported lead = absurd (cc reported)
 
 one_of_two : (one other : Option Range) → IsSome one ⊎ IsSome other → IsSome (option_or one other)
 one_of_two (Some range) other some = refl
@@ -63,15 +63,15 @@ in_range top ranges entries found leads = entry_at (is_of_key found) ranges (who
 pub all_in_range : (top : Members) (index : Index) → HaveEntries top (ranges_in index) → (findings : List Finding) → AllByRecursion (IsIn top) findings
     → AllByRecursion (HasRange index) findings
 all_in_range top index entries [] are = tt
-all_in_range top index entries (finding ∷ findings) ((found, told, leads), are) =
-    ((found, told, in_range top (ranges_in index) entries found leads), all_in_range top index entries findings are)
+all_in_range top index entries (finding ∷ findings) ((found, reported, leads), are) =
+    ((found, reported, in_range top (ranges_in index) entries found leads), all_in_range top index entries findings are)
 
 -- ---- findings at their ranges
 
 -- findings at the ranges of what they tell
 pub all_at_ranges : (contents : List ℕ) (findings : List Finding) (located : List LocatedFinding) → AllZip (IsLocated contents) findings located
-    → (all_found : List Found) → Tells findings all_found → AllZip (IsAtRange contents) all_found located
-all_at_ranges contents [] [] placed [] told = tt
-all_at_ranges contents (finding ∷ findings) (one ∷ located) placed (found ∷ all_found) told =
-    (placed.0 found (cc told), all_at_ranges contents findings located placed.1 all_found (cc told))
-all_at_ranges contents findings located placed all_found told = search rules
+    → (all_found : List Found) → Reports findings all_found → AllZip (IsAtRange contents) all_found located
+all_at_ranges contents [] [] placed [] reported = tt
+all_at_ranges contents (finding ∷ findings) (one ∷ located) placed (found ∷ all_found) reported =
+    (placed.0 found (cc reported), all_at_ranges contents findings located placed.1 all_found (cc reported))
+all_at_ranges contents findings located placed all_found reported = search rules

@@ -3,13 +3,12 @@ use Rattle.std.specs.Prelude.{◌≡◌, ℕ, zero, suc, Bool, true, false, List
 use Rattle.std.proofs.Common.{◌+◌, arith, ap, append_assoc, inl, inr, nat_cmp, refl, subst, sym, ◌∙◌}
 use Rattle.std.proofs.lemmas.Option.{same_Some}
 use Rattle.std.specs.Cmp.Lexicographic.{slice_cmp}
-use Rattle.semver.specs.Parse.{Parts as VersionParts}
 use Rattle.toml.specs.Data.{array, as_str, Data, get_item, get_member, item, Items, member, Members, no_items, no_members, table}
 use Rattle.toml_spans.specs.Step.{index, key, PathStep}
 use Rattle.nextest_config_values.specs.Duration.{duration_reading}
 use Rattle.nextest_config_values.specs.Read.Fault.{Fault, fault_below}
-use Rattle.nextest_config_values.specs.Read.{bool_reading, count_reading, either, made_of, missing, no_data, optional, or_default, Reading, required, text_expected, text_reading, then, unknown_key, u32_reading, word_reading, wrong_type}
-use Rattle.nextest_config.specs.NextestVersion.{all_features, features_under, in_order, recommended_key, required_key, switches, version_reading, version_table, versions_reading}
+use Rattle.nextest_config_values.specs.Read.{bool_reading, count_reading, either, made_of, missing, optional, or_default, Reading, required, text_expected, text_reading, then, unknown_key, u32_reading, word_reading, wrong_type}
+use Rattle.nextest_config.specs.NextestVersion.{all_features, features_under, recommended_key, required_key, switches, version_reading, version_table, versions_reading}
 use Rattle.nextest_config.specs.declared.nextest_version.edition.Edition.{Edition}
 use Rattle.nextest_config.specs.declared.nextest_version.edition.Edition.TheVariants.{ArrayAllowed, TableOnly}
 use Rattle.nextest_config_elements.specs.Fields.{allowed, field_words, Fields, fields, KeyRule, needed, nothing, versions}
@@ -37,8 +36,8 @@ use Rattle.nextest_config_elements.specs.declared.slow_timeout.SlowTimeoutResult
 use Rattle.nextest_config_elements.specs.UnknownKeys.{IsOneOf, IsUnknownKey}
 use Rattle.nextest_config_elements.specs.UnknownKeysLaws.{found_at}
 use Rattle.nextest_config_lint.proofs.RetriesRead.{backoff_is, backoff_reading, exponential_broken, fixed_broken, known_one, of_plain, refused_in}
-use Rattle.nextest_config_lint.specs.Rules.{IsOutOfOrder}
-use Rattle.nextest_config_lint.specs.FindingsLaws.{FindsItsFault, HasFaultAmong, IsFaultAt}
+use Rattle.nextest_config_lint.proofs.VersionOrder.{by_versions}
+use Rattle.nextest_config_lint.specs.FindingsLaws.{FindsFaultOf, HasFaultAmong, IsFaultAt}
 use Rattle.nextest_config_lint.specs.Settings.{absent_key, at_items, at_key, between, by_kind, expected_by, features_at, in_retries, is_known, is_wanted, names_of, of_name, refused_key, setting_at, settings_in, settings_of_fields, SettingView, with_parts}
 use Rattle.nextest_config_lint.specs.Shapes.{shape_check}
 use Rattle.nextest_config_lint.specs.declared.settings.Rules.TheVariants as rules_of
@@ -89,7 +88,7 @@ module _ (edition : Edition) (path : List PathStep) where
 
     value_found : (value : Data) (fault : Fault) → IsBelow value fault → HasFaultAmong edition path fault (settings_in shape severity nothing (path ++ (key name ∷ [])) value)
     value_found value fault (inner, wrong, is) = inl (record {
-      told = inner;
+      reported = inner;
       is_wrong = same value inner wrong;
       same_place = append_assoc path (key name ∷ []) inner.steps ∙ ap (λ (f : Fault). path ++ f.steps) (sym is);
       same_cause = ap (λ (f : Fault). f.cause) (sym is);
@@ -105,7 +104,7 @@ module _ (edition : Edition) (path : List PathStep) where
     needed_found wanted None fault is =
         subst (λ (b : Bool). HasFaultAmong edition path fault (if b then setting_at severity path (absent_key name) ∷ [] else [])) (sym wanted)
         (inl (record {
-          told = missing name;
+          reported = missing name;
           is_wrong = refl;
           same_place = ap (λ (f : Fault). path ++ f.steps) (sym is);
           same_cause = ap (λ (f : Fault). f.cause) (sym is);
@@ -126,7 +125,7 @@ module _ (edition : Edition) (path : List PathStep) where
       → ((fault : Fault) → reading.faults value fault → (shape_check edition shape).faults value fault) → (fault : Fault) → reading.faults value fault
       → HasFaultAmong edition path fault (settings_in shape severity parts path value)
   beside_found severity shape parts reading value same fault wrong =
-      inl (record { told = fault; is_wrong = same fault wrong; same_place = refl; same_cause = refl })
+      inl (record { reported = fault; is_wrong = same fault wrong; same_place = refl; same_cause = refl })
 
   -- ---- timeouts
 
@@ -138,7 +137,7 @@ module _ (edition : Edition) (path : List PathStep) where
       last_found (default_at slow.on_timeout_key shapes.SlowTimeoutResult Error (word_reading slow.slow_timeout_results slow.slow_timeout_word slow.slow_timeout_reads_back) (λ v f w. w) held Fail))))
 
   pub slow_timeout_found : (value : Data) → is_wanted (needed slow.period_key shapes.Duration Error) path ≡ true
-      → FindsItsFault slow_timeout_reading edition shapes.SlowTimeout (fields slow_timeout_fields) path value
+      → FindsFaultOf slow_timeout_reading edition shapes.SlowTimeout (fields slow_timeout_fields) path value
   slow_timeout_found (table held) wanted = λ fault wrong. inr ((slow_found held wanted).finds fault wrong)
   slow_timeout_found value wanted = beside_found Error shapes.SlowTimeout (fields slow_timeout_fields) slow_timeout_reading value (λ f w. w)
 
@@ -148,7 +147,7 @@ module _ (edition : Edition) (path : List PathStep) where
       last_found (default_at leak.result_key shapes.LeakTimeoutResult Error (word_reading leak.leak_timeout_results leak.leak_timeout_word leak.leak_timeout_reads_back) (λ v f w. w) held leaky.Pass))
 
   pub leak_timeout_found : (value : Data) → is_wanted (needed leak.period_key shapes.ShortDuration Error) path ≡ true
-      → FindsItsFault leak_timeout_reading edition shapes.LeakTimeout (fields leak_timeout_fields) path value
+      → FindsFaultOf leak_timeout_reading edition shapes.LeakTimeout (fields leak_timeout_fields) path value
   leak_timeout_found (table held) wanted = λ fault wrong. inr ((leak_found held wanted).finds fault wrong)
   leak_timeout_found value wanted = beside_found Error shapes.LeakTimeout (fields leak_timeout_fields) leak_timeout_reading value (λ f w. w)
 
@@ -159,7 +158,7 @@ module _ (edition : Edition) (path : List PathStep) where
       found_then (required_at max_fail_key shapes.MaxFail Error max_fail_reading (λ v f w. w) refl held) (λ count.
       last_found (default_at terminate_key shapes.TerminateMode Error terminate_reading (λ v f w. w) held Wait))
 
-  pub fail_fast_found : (value : Data) → FindsItsFault fail_fast_reading edition shapes.FailFast (fields fail_fast_fields) path value
+  pub fail_fast_found : (value : Data) → FindsFaultOf fail_fast_reading edition shapes.FailFast (fields fail_fast_fields) path value
   fail_fast_found (table held) = λ fault wrong. inr ((limit_found held).finds fault wrong)
   fail_fast_found value = beside_found Error shapes.FailFast (fields fail_fast_fields) fail_fast_reading value (λ f w. w)
 
@@ -174,25 +173,11 @@ module _ (edition : Edition) (path : List PathStep) where
       found_then (optional_at junit.report_skipped_key shapes.ReportSkipPolicy Error report_skip_reading (λ v f w. w) held) (λ e.
       last_found (optional_at junit.flaky_fail_status_key shapes.FlakyFailStatus Error flaky_fail_reading (λ v f w. w) held))))))
 
-  pub junit_found : (value : Data) → FindsItsFault junit_reading edition shapes.Table (fields junit_fields) path value
+  pub junit_found : (value : Data) → FindsFaultOf junit_reading edition shapes.Table (fields junit_fields) path value
   junit_found (table held) = λ fault wrong. inr ((report_found held).finds fault wrong)
   junit_found value = beside_found Error shapes.Table (fields junit_fields) junit_reading value (λ f w. (refl, w))
 
   -- ---- `nextest-version`
-
-  out_of_order : (held : Members) (a b : Option VersionParts) (fault : Fault) → (optional required_key version_reading).means held a → (optional recommended_key version_reading).means held b
-      → (in_order a b).faults no_data fault → IsOutOfOrder held fault
-  out_of_order held (Some a) (Some b) fault there there_too (inl (below, is)) = record {
-    required = a;
-    recommended = b;
-    required_there = there;
-    recommended_there = there_too;
-    is_below = below;
-    is = is;
-  }
-  out_of_order held (Some a) (Some b) fault there there_too (inr (kept, none)) = absurd none
-  out_of_order held (Some a) None fault there there_too none = absurd none
-  out_of_order held None b fault there there_too none = absurd none
 
   versions_table_found : (held : Members) (fault : Fault) → version_table.faults held fault
       → HasFaultAmong edition path fault (settings_of_fields version_fields Error path held ++ (setting_at Error path (between rules_of.Versions (table held)) ∷ []))
@@ -206,10 +191,10 @@ module _ (edition : Edition) (path : List PathStep) where
             in_left fault (first ++ (second ++ [])) rules
             (in_right fault first (second ++ []) (in_left fault second [] ((optional_at recommended_key shapes.VersionText Error version_reading (λ v f w. w) held).finds fault here)))
         | inr (a, there, inr (b, there_too, broken)) ↦
-            in_right fault (first ++ (second ++ [])) rules (inl (record { told = fault; is_wrong = out_of_order held a b fault there there_too broken; same_place = refl; same_cause = refl }))
+            in_right fault (first ++ (second ++ [])) rules (inl (record { reported = fault; is_wrong = by_versions held a b fault there there_too broken; same_place = refl; same_cause = refl }))
       ]
 
-  pub versions_found : (value : Data) → FindsItsFault versions_reading edition shapes.NextestVersion (versions version_fields) path value
+  pub versions_found : (value : Data) → FindsFaultOf versions_reading edition shapes.NextestVersion (versions version_fields) path value
   versions_found (table held) = λ fault wrong. inr (versions_table_found held fault wrong)
   versions_found value = beside_found Error shapes.NextestVersion (versions version_fields) versions_reading value (λ f w. w)
 
@@ -221,12 +206,12 @@ module _ (edition : Edition) (path : List PathStep) where
           → HasFaultAmong edition path fault (if here then [] else setting_at Error path (refused_key other expected known) ∷ [])
       refused_by other true there same = absurd (unknown.1 (subst (IsOneOf known) (sym same) (known_one known other there)))
       refused_by other false there same =
-          let told : unknown_key other expected ≡ fault = ap (λ (n : List ℕ). unknown_key n expected) (sym same) ∙ sym is in
+          let reported : unknown_key other expected ≡ fault = ap (λ (n : List ℕ). unknown_key n expected) (sym same) ∙ sym is in
           inl (record {
-            told = unknown_key other expected;
+            reported = unknown_key other expected;
             is_wrong = refl;
-            same_place = ap (λ (f : Fault). path ++ f.steps) told;
-            same_cause = ap (λ (f : Fault). f.cause) told;
+            same_place = ap (λ (f : Fault). path ++ f.steps) reported;
+            same_cause = ap (λ (f : Fault). f.cause) reported;
           })
 
       refused_among : (members : Members) → IsSome (get_member name members) → HasFaultAmong edition path fault (refused_in Error path expected known (names_of members))
@@ -239,23 +224,9 @@ module _ (edition : Edition) (path : List PathStep) where
     abbrev rules : List SettingView
     rules = setting_at Error path (between rules_of.Retries (table held)) ∷ []
 
-    abbrev backoff_at : List SettingView
-    backoff_at = of_plain (needed backoff_key shapes.Backoff Error) path held
-
-    abbrev count_at : List SettingView
-    count_at = of_plain (needed count_key shapes.U32 Error) path held
-
-    abbrev allowed_delay : List SettingView
-    allowed_delay = of_plain (allowed delay_key shapes.Duration Error) path held
-
-    abbrev needed_delay : List SettingView
-    needed_delay = of_plain (needed delay_key shapes.Duration Error) path held
-
-    abbrev jitter_at : List SettingView
-    jitter_at = of_plain (allowed jitter_key shapes.Boolean Error) path held
-
-    abbrev max_at : List SettingView
-    max_at = of_plain (allowed max_delay_key shapes.Duration Error) path held
+    -- what is judged at a key
+    abbrev at : KeyRule → List SettingView
+    at rule = of_plain rule path held
 
     -- what is found of the fields, of the other keys, and of the rules
     module _ (fault : Fault) (known : Fields) where
@@ -275,57 +246,64 @@ module _ (edition : Edition) (path : List PathStep) where
       of_rules : (kind : Backoff) → backoff_in held ≡ Some kind → (rules_by (Some kind)).faults held fault → HasFaultAmong edition path fault (in_retries Error known path held)
       of_rules kind named wrong =
           in_right fault (settings_of_fields known Error path held ++ others) rules
-          (inl (record { told = fault; is_wrong = subst (λ (k : Option Backoff). (rules_by k).faults held fault) (sym named) wrong; same_place = refl; same_cause = refl }))
+          (inl (record { reported = fault; is_wrong = subst (λ (k : Option Backoff). (rules_by k).faults held fault) (sym named) wrong; same_place = refl; same_cause = refl }))
 
-    fixed_found : backoff_in held ≡ Some Fixed → (fault : Fault) → fixed_table.faults held fault → HasFaultAmong edition path fault (in_retries Error fixed_fields path held)
-    fixed_found named fault wrong = elim wrong [
-      | inl here ↦
-          of_fields fault fixed_fields (in_right fault backoff_at _ (in_left fault count_at _ ((required_at count_key shapes.U32 Error u32_reading (λ v f w. w) refl held).finds fault here)))
-      | inr (count, count_there, inl here) ↦
-          of_fields fault fixed_fields
-          (in_right fault backoff_at _ (in_right fault count_at _ (in_left fault allowed_delay _ ((default_at delay_key shapes.Duration Error duration_reading (λ v f w. w) held 0).finds fault here))))
-      | inr (count, count_there, inr (delay, delay_there, inl here)) ↦
-          of_fields fault fixed_fields
-          (in_right fault backoff_at _ (in_right fault count_at _ (in_right fault allowed_delay _ (in_left fault jitter_at [] ((default_at jitter_key shapes.Boolean Error bool_reading (λ v f w. w) held false).finds fault here)))))
-      | inr (count, count_there, inr (delay, delay_there, inr (jitter, jitter_there, inl (name, first, is)))) ↦ of_others fault fixed_fields Fixed named name first.is_unknown is
-      | inr (count, count_there, inr (delay, delay_there, inr (jitter, jitter_there, inr (alone, inl (broken, is))))) ↦
-          of_rules fault fixed_fields Fixed named (fixed_broken held delay jitter delay_there jitter_there broken, is)
-      | inr (count, count_there, inr (delay, delay_there, inr (jitter, jitter_there, inr (alone, inr (kept, none))))) ↦ absurd none
-    ]
+    -- each fault that a reading finds is found of all that is judged, if what is found of these is
+    record IsFoundAmong {X : Type 0} (these all : List SettingView) (reading : Reading Members X) : Type 0 where
+      finds : ((fault : Fault) → HasFaultAmong edition path fault these → HasFaultAmong edition path fault all) → (fault : Fault) → reading.faults held fault
+          → HasFaultAmong edition path fault all
 
-    exponential_found : backoff_in held ≡ Some Exponential → (fault : Fault) → exponential_table.faults held fault → HasFaultAmong edition path fault (in_retries Error exponential_fields path held)
-    exponential_found named fault wrong = elim wrong [
-      | inl here ↦
-          of_fields fault exponential_fields (in_right fault backoff_at _ (in_left fault count_at _ ((required_at count_key shapes.U32 Error u32_reading (λ v f w. w) refl held).finds fault here)))
-      | inr (count, count_there, inl here) ↦
-          of_fields fault exponential_fields
-          (in_right fault backoff_at _ (in_right fault count_at _ (in_left fault needed_delay _ ((required_at delay_key shapes.Duration Error duration_reading (λ v f w. w) refl held).finds fault here))))
-      | inr (count, count_there, inr (delay, delay_there, inl here)) ↦
-          of_fields fault exponential_fields
-          (in_right fault backoff_at _ (in_right fault count_at _ (in_right fault needed_delay _ (in_left fault jitter_at _ ((default_at jitter_key shapes.Boolean Error bool_reading (λ v f w. w) held false).finds fault here)))))
-      | inr (count, count_there, inr (delay, delay_there, inr (jitter, jitter_there, inl here))) ↦
-          of_fields fault exponential_fields
-          (in_right fault backoff_at _ (in_right fault count_at _ (in_right fault needed_delay _ (in_right fault jitter_at _
-          (in_left fault max_at [] ((optional_at max_delay_key shapes.Duration Error duration_reading (λ v f w. w) held).finds fault here))))))
-      | inr (count, count_there, inr (delay, delay_there, inr (jitter, jitter_there, inr (max, max_there, inl (name, first, is))))) ↦
-          of_others fault exponential_fields Exponential named name first.is_unknown is
-      | inr (count, count_there, inr (delay, delay_there, inr (jitter, jitter_there, inr (max, max_there, inr (alone, inl broken))))) ↦
-          of_rules fault exponential_fields Exponential named (exponential_broken held count delay max count_there delay_there max_there fault broken)
-      | inr (count, count_there, inr (delay, delay_there, inr (jitter, jitter_there, inr (max, max_there, inr (alone, inr (kept, none)))))) ↦ absurd none
-    ]
+    -- of a field, and of what follows
+    among_then : {X Y : Type 0} {here rest all : List SettingView} {first : Reading Members X} {later : X → Reading Members Y} → AreFound here first held
+        → ((x : X) → first.means held x → IsFoundAmong rest all (later x)) → IsFoundAmong (here ++ rest) all ((then) first later)
+    among_then {here = here} {rest = rest} before after = record {
+      finds = λ within fault wrong. elim wrong [
+        | inl first ↦ within fault (in_left fault here rest (before.finds fault first))
+        | inr (x, meant, later) ↦ (after x meant).finds (λ other found. within other (in_right other here rest found)) fault later
+      ];
+    }
+
+    fixed_found : backoff_in held ≡ Some Fixed
+        → IsFoundAmong (at (needed count_key shapes.U32 Error) ++ (at (allowed delay_key shapes.Duration Error) ++ (at (allowed jitter_key shapes.Boolean Error) ++ [])))
+        (in_retries Error fixed_fields path held) fixed_table
+    fixed_found named =
+        among_then (required_at count_key shapes.U32 Error u32_reading (λ v f w. w) refl held) (λ count count_there.
+        among_then (default_at delay_key shapes.Duration Error duration_reading (λ v f w. w) held 0) (λ delay delay_there.
+        among_then (default_at jitter_key shapes.Boolean Error bool_reading (λ v f w. w) held false) (λ jitter jitter_there. record {
+          finds = λ within fault wrong. elim wrong [
+            | inl (name, first, is) ↦ of_others fault fixed_fields Fixed named name first.is_unknown is
+            | inr (alone, inl (broken, is)) ↦ of_rules fault fixed_fields Fixed named (fixed_broken held delay jitter delay_there jitter_there broken, is)
+            | inr (alone, inr (kept, none)) ↦ absurd none
+          ];
+        })))
+
+    exponential_found : backoff_in held ≡ Some Exponential
+        → IsFoundAmong (at (needed count_key shapes.U32 Error) ++ (at (needed delay_key shapes.Duration Error) ++ (at (allowed jitter_key shapes.Boolean Error) ++ (at (allowed max_delay_key shapes.Duration Error) ++ []))))
+        (in_retries Error exponential_fields path held) exponential_table
+    exponential_found named =
+        among_then (required_at count_key shapes.U32 Error u32_reading (λ v f w. w) refl held) (λ count count_there.
+        among_then (required_at delay_key shapes.Duration Error duration_reading (λ v f w. w) refl held) (λ delay delay_there.
+        among_then (default_at jitter_key shapes.Boolean Error bool_reading (λ v f w. w) held false) (λ jitter jitter_there.
+        among_then (optional_at max_delay_key shapes.Duration Error duration_reading (λ v f w. w) held) (λ max max_there. record {
+          finds = λ within fault wrong. elim wrong [
+            | inl (name, first, is) ↦ of_others fault exponential_fields Exponential named name first.is_unknown is
+            | inr (alone, inl broken) ↦ of_rules fault exponential_fields Exponential named (exponential_broken held count delay max count_there delay_there max_there fault broken)
+            | inr (alone, inr (kept, none)) ↦ absurd none
+          ];
+        }))))
 
     -- what is judged of the table, by its backoff
     abbrev all_by : Option Backoff → List SettingView
     all_by = by_kind (in_retries Error fixed_fields path held) (in_retries Error exponential_fields path held) (in_retries Error open_fields path held)
 
-    backoff_found_by : (kind : Option Backoff) (fault : Fault) → HasFaultAmong edition path fault backoff_at → HasFaultAmong edition path fault (all_by kind)
-    backoff_found_by (Some Fixed) fault found = of_fields fault fixed_fields (in_left fault backoff_at _ found)
-    backoff_found_by (Some Exponential) fault found = of_fields fault exponential_fields (in_left fault backoff_at _ found)
-    backoff_found_by None fault found = of_fields fault open_fields (in_left fault backoff_at _ found)
+    backoff_found_by : (kind : Option Backoff) (fault : Fault) → HasFaultAmong edition path fault (at (needed backoff_key shapes.Backoff Error)) → HasFaultAmong edition path fault (all_by kind)
+    backoff_found_by (Some Fixed) fault found = of_fields fault fixed_fields (in_left fault (at (needed backoff_key shapes.Backoff Error)) _ found)
+    backoff_found_by (Some Exponential) fault found = of_fields fault exponential_fields (in_left fault (at (needed backoff_key shapes.Backoff Error)) _ found)
+    backoff_found_by None fault found = of_fields fault open_fields (in_left fault (at (needed backoff_key shapes.Backoff Error)) _ found)
 
     table_found_by : (kind : Backoff) → backoff_in held ≡ Some kind → (fault : Fault) → (table_with_backoff kind).faults held fault → HasFaultAmong edition path fault (all_by (Some kind))
-    table_found_by Fixed named fault wrong = fixed_found named fault wrong
-    table_found_by Exponential named fault wrong = exponential_found named fault wrong
+    table_found_by Fixed named = (fixed_found named).finds (λ fault found. of_fields fault fixed_fields (in_right fault (at (needed backoff_key shapes.Backoff Error)) _ found))
+    table_found_by Exponential named = (exponential_found named).finds (λ fault found. of_fields fault exponential_fields (in_right fault (at (needed backoff_key shapes.Backoff Error)) _ found))
 
     retries_table_found : (fault : Fault) → retry_table.faults held fault → HasFaultAmong edition path fault (all_by (backoff_in held))
     retries_table_found fault wrong = elim wrong [
@@ -335,7 +313,7 @@ module _ (edition : Edition) (path : List PathStep) where
           subst (λ (k : Option Backoff). HasFaultAmong edition path fault (all_by k)) (sym named) (table_found_by kind named fault later)
     ]
 
-  pub retries_found : (value : Data) → FindsItsFault retry_policy_reading edition shapes.Retries retries_parts path value
+  pub retries_found : (value : Data) → FindsFaultOf retry_policy_reading edition shapes.Retries retries_parts path value
   retries_found (table held) = λ fault wrong. inr (retries_table_found held fault wrong)
   retries_found value = beside_found Error shapes.Retries retries_parts retry_policy_reading value (λ f w. w)
 
@@ -367,7 +345,7 @@ element_found path first number (item other rest) zero value fault here none at 
     let same : value ≡ other = same_Some value other (sym here) in
     let at_first : number ≡ first = omega (arith, at) in
     inl (record {
-      told = wrong_type value text_expected;
+      reported = wrong_type value text_expected;
       is_wrong = subst (λ (held : Data). text_reading.faults held (wrong_type value text_expected)) same (no_text_refused value none);
       same_place = append_assoc path (index first ∷ []) [] ∙ ap (λ (n : ℕ). path ++ (index n ∷ [])) (sym at_first) ∙ ap (λ (f : Fault). path ++ f.steps) (sym is);
       same_cause = ap (λ (f : Fault). f.cause) (sym is);
@@ -375,7 +353,7 @@ element_found path first number (item other rest) zero value fault here none at 
 element_found path first number (item other rest) (suc place) value fault here none at is =
     inr (element_found path (suc first) number rest place value fault here none (omega (arith, at)) is)
 
-pub features_found : (edition : Edition) (path : List PathStep) (value : Data) → FindsItsFault (features_under edition) edition shapes.Experimental (known.features feature_fields) path value
+pub features_found : (edition : Edition) (path : List PathStep) (value : Data) → FindsFaultOf (features_under edition) edition shapes.Experimental (known.features feature_fields) path value
 features_found ArrayAllowed path (table held) = λ fault wrong.
     inr (in_left ArrayAllowed path fault (settings_of_fields feature_fields Error path held) (named_in ArrayAllowed path (table held)) ((switches_found ArrayAllowed path held).finds fault wrong))
 features_found TableOnly path (table held) = λ fault wrong.

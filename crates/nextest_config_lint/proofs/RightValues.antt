@@ -11,9 +11,9 @@ use Rattle.nextest_config_lint.specs.FindingsLaws.{HasNoFault, HaveNoFault}
 use Rattle.nextest_config_lint.specs.Settings.{SettingView}
 
 -- a refusal for which memory was there tells a fault
-told : (M : Type 0) (IsFault : Fault → Type 0) (found : Option Fault) → IsSome found → FaultOrMemory found M IsFault → (fault : Fault) × IsFault fault
-told M IsFault (Some fault) some refused = (fault, refused)
-told M IsFault None some refused = cc some
+reported : (M : Type 0) (IsFault : Fault → Type 0) (found : Option Fault) → IsSome found → FaultOrMemory found M IsFault → (fault : Fault) × IsFault fault
+reported M IsFault (Some fault) some refused = (fault, refused)
+reported M IsFault None some refused = cc some
 
 module _ {D : Type 0} (check : Check D) (value : D) where
   -- the answer to a check is whether the value passes it
@@ -21,7 +21,7 @@ module _ {D : Type 0} (check : Check D) (value : D) where
       → MatchResult checked (λ _. IsTrue answer) (λ fault. IsSome (fault_of fault) × (answer ≡ false))
       → IsTrue answer ↔ check.passes value
   passes_if (Ok unit) answer passes refused answered = ((λ _. passes), λ _. answered)
-  passes_if (Err refusal) answer passes refused (some, wrong) = let (fault, is) = told _ _ (fault_of refusal) some refused in
+  passes_if (Err refusal) answer passes refused (some, wrong) = let (fault, is) = reported _ _ (fault_of refusal) some refused in
       rw wrong ((λ never. cc never), λ passes. absurd (check.never_both value fault passes is))
 
   -- and so is whether nothing is wrong with it

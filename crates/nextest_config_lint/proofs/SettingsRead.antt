@@ -10,7 +10,7 @@ use Rattle.toml_spans.proofs.Elements.{all_joined, all_left, all_right}
 use Rattle.toml_spans.specs.Step.{PathStep}
 use Rattle.nextest_config_values.specs.Duration.{duration_reading}
 use Rattle.nextest_config_values.specs.Read.Fault.{Fault}
-use Rattle.nextest_config_values.specs.Read.{bool_reading, broken_by, count_reading, either, inner, made_of, missing, no_data, optional, or_default, Reading, required, required_above_recommended, text_reading, then, word_reading, unknown_key, u32_reading}
+use Rattle.nextest_config_values.specs.Read.{bool_reading, count_reading, either, inner, made_of, missing, no_data, optional, or_default, Reading, required, text_reading, then, word_reading, unknown_key, u32_reading}
 use Rattle.nextest_config.specs.NextestVersion.{all_features, feature_array, feature_table, features_under, IsTextAt, in_order, recommended_key, required_key, switches, table_names, text_in, version_reading, version_table, Versions, versions_reading}
 use Rattle.nextest_config.specs.declared.nextest_version.edition.Edition.{Edition}
 use Rattle.nextest_config.specs.declared.nextest_version.edition.Edition.TheVariants.{ArrayAllowed, TableOnly}
@@ -39,8 +39,8 @@ use Rattle.nextest_config_elements.specs.declared.retry_policy.Backoff.TheVarian
 use Rattle.nextest_config_elements.specs.declared.slow_timeout.SlowTimeoutResult.TheVariants.{Fail}
 use Rattle.nextest_config_lint.proofs.Keys.{names_have}
 use Rattle.nextest_config_lint.proofs.RetriesRead.{backoff_is, backoff_reading, checked_none, exponential_kept, fixed_rules, known_one, of_names, of_plain, one_known, refused_in}
-use Rattle.nextest_config_lint.specs.FindingsLaws.{HasNoFault, HaveNoFault, IsTakenWhole}
-use Rattle.nextest_config_lint.specs.Rules.{IsOutOfOrder}
+use Rattle.nextest_config_lint.specs.FindingsLaws.{HasNoFault, HaveNoFault, IsTakenBy}
+use Rattle.nextest_config_lint.specs.Rules.{IsOutOfOrder, out_of_order}
 use Rattle.nextest_config_lint.specs.Settings.{absent_key, and_rules, at_items, at_key, between, features_at, is_wanted, setting_at, settings_in, settings_of_fields, SettingView, with_parts, by_kind, expected_by, in_retries, is_known, names_of, of_name, refused_key}
 use Rattle.nextest_config_lint.specs.Shapes.{shape_check}
 use Rattle.nextest_config_lint.specs.declared.settings.Rules.TheVariants as rules_of
@@ -160,14 +160,7 @@ module _ (edition : Edition) where
   in_order_taken held (Some a) (Some b) there there_too none = (
     _,
     (
-      λ below. none (broken_by (required_above_recommended a b)) (record {
-        required = a;
-        recommended = b;
-        required_there = there;
-        recommended_there = there_too;
-        is_below = below;
-        is = refl;
-      }),
+      λ below. none _ (out_of_order held a b _ there there_too below refl),
       refl,
     ),
   )
@@ -177,8 +170,8 @@ module _ (edition : Edition) where
   not_out_of_order : (held : Members) (a b : Option VersionParts) (asked : Versions) → (optional required_key version_reading).means held a
       → (optional recommended_key version_reading).means held b → (in_order a b).means tt asked → (fault : Fault) → IsOutOfOrder held fault → ⊥
   not_out_of_order held a b asked there there_too ordered fault out =
-      let same = (optional required_key version_reading).law.one_meaning held a (Some out.required) there out.required_there in
-      let same_too = (optional recommended_key version_reading).law.one_meaning held b (Some out.recommended) there_too out.recommended_there in
+      let same = (optional required_key version_reading).law.one_meaning held a (Some out.required) there out.there.0 in
+      let same_too = (optional recommended_key version_reading).law.one_meaning held b (Some out.recommended) there_too out.there.1 in
       let both : (in_order (Some out.required) (Some out.recommended)).means tt asked =
       subst (λ (x : Option VersionParts). (in_order (Some out.required) x).means tt asked) same_too
       (subst (λ (x : Option VersionParts). (in_order x b).means tt asked) same ordered) in
@@ -220,7 +213,7 @@ module _ (edition : Edition) where
         ((version_rules_taken severity path held a b there there_too).1 (asked, ordered)),
   )
 
-  pub versions_taken : (path : List PathStep) (value : Data) → IsTakenWhole versions_reading edition shapes.NextestVersion (versions version_fields) path value
+  pub versions_taken : (path : List PathStep) (value : Data) → IsTakenBy versions_reading edition shapes.NextestVersion (versions version_fields) path value
   versions_taken path (table held) = always_first (λ fault wrong. wrong) (version_table_taken Error path held)
   versions_taken path value = beside versions_reading value iff.rfl
 
@@ -293,7 +286,7 @@ and_features : (edition : Edition) (path : List PathStep) (value : Data) (settin
 and_features edition path value settings same =
     iff.trans (in_both edition settings (setting_at Error path (features_at value) ∷ [])) (λ h. same.0 h.0, λ p. (same.1 p, ((λ fault wrong. wrong), tt)))
 
-pub features_taken : (edition : Edition) (path : List PathStep) (value : Data) → IsTakenWhole (features_under edition) edition shapes.Experimental (known.features feature_fields) path value
+pub features_taken : (edition : Edition) (path : List PathStep) (value : Data) → IsTakenBy (features_under edition) edition shapes.Experimental (known.features feature_fields) path value
 features_taken ArrayAllowed path (table held) =
     always_first (λ fault wrong. wrong)
     (and_features ArrayAllowed path (table held) (settings_of_fields feature_fields Error path held) (made_taken _ feature_table held (feature_table_taken ArrayAllowed path held).both))
@@ -329,7 +322,7 @@ module _ (edition : Edition) where
       (shape_of (word_reading slow.slow_timeout_results slow.slow_timeout_word slow.slow_timeout_reads_back))))))
 
   pub slow_timeout_taken : (path : List PathStep) (value : Data) → is_wanted (needed slow.period_key shapes.Duration Error) path ≡ true
-      → IsTakenWhole slow_timeout_reading edition shapes.SlowTimeout (fields slow_timeout_fields) path value
+      → IsTakenBy slow_timeout_reading edition shapes.SlowTimeout (fields slow_timeout_fields) path value
   slow_timeout_taken path (table held) wanted = always_first (λ fault wrong. wrong) (made_taken Some slow_timeout_table held (slow_table_taken path held wanted).both)
   slow_timeout_taken path value wanted = beside edition slow_timeout_reading value iff.rfl
 
@@ -341,7 +334,7 @@ module _ (edition : Edition) where
       (shape_of (word_reading leak.leak_timeout_results leak.leak_timeout_word leak.leak_timeout_reads_back))))
 
   pub leak_timeout_taken : (path : List PathStep) (value : Data) → is_wanted (needed leak.period_key shapes.ShortDuration Error) path ≡ true
-      → IsTakenWhole leak_timeout_reading edition shapes.LeakTimeout (fields leak_timeout_fields) path value
+      → IsTakenBy leak_timeout_reading edition shapes.LeakTimeout (fields leak_timeout_fields) path value
   leak_timeout_taken path (table held) wanted = always_first (λ fault wrong. wrong) (made_taken Some leak_timeout_table held (leak_table_taken path held wanted).both)
   leak_timeout_taken path value wanted = beside edition leak_timeout_reading value iff.rfl
 
@@ -352,7 +345,7 @@ module _ (edition : Edition) where
       field_then edition (required_key_taken edition max_fail_key shapes.MaxFail Error path held max_fail_reading (shape_of max_fail_reading) refl) (λ count.
       last_made edition (default_key edition terminate_key shapes.TerminateMode Error path held Wait terminate_reading (shape_of terminate_reading)))
 
-  pub fail_fast_taken : (path : List PathStep) (value : Data) → IsTakenWhole fail_fast_reading edition shapes.FailFast (fields fail_fast_fields) path value
+  pub fail_fast_taken : (path : List PathStep) (value : Data) → IsTakenBy fail_fast_reading edition shapes.FailFast (fields fail_fast_fields) path value
   fail_fast_taken path (table held) = always_first (λ fault wrong. wrong) (made_taken Some fail_fast_table held (fail_fast_table_taken path held).both)
   fail_fast_taken path value = beside edition fail_fast_reading value iff.rfl
 
@@ -373,7 +366,7 @@ module _ (edition : Edition) where
       field_then edition (optional_key edition junit.report_skipped_key shapes.ReportSkipPolicy Error path held report_skip_reading (shape_of report_skip_reading)) (λ e.
       last_made edition (optional_key edition junit.flaky_fail_status_key shapes.FlakyFailStatus Error path held flaky_fail_reading (shape_of flaky_fail_reading)))))))
 
-  pub junit_taken : (path : List PathStep) (value : Data) → IsTakenWhole junit_reading edition shapes.Table (fields junit_fields) path value
+  pub junit_taken : (path : List PathStep) (value : Data) → IsTakenBy junit_reading edition shapes.Table (fields junit_fields) path value
   junit_taken path (table held) = always_first (λ fault wrong. cc wrong.0) (junit_table_taken path held).both
   junit_taken path value = beside edition junit_reading value (λ none fault is. none fault (refl, is), λ none fault wrong. none fault wrong.1)
 
@@ -532,6 +525,6 @@ module _ (edition : Edition) where
     retries_by (Some Exponential) named = exponential_taken named
     retries_by None named = open_taken named
 
-  pub retries_taken : (path : List PathStep) (value : Data) → IsTakenWhole retry_policy_reading edition shapes.Retries retries_parts path value
+  pub retries_taken : (path : List PathStep) (value : Data) → IsTakenBy retry_policy_reading edition shapes.Retries retries_parts path value
   retries_taken path (table held) = always_first (λ fault wrong. wrong) (made_taken Some retry_table held (retries_by path held (backoff_in held) refl))
   retries_taken path value = beside edition retry_policy_reading value iff.rfl

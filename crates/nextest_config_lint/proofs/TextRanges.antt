@@ -1,17 +1,16 @@
 -- Where a fault of a text stands at bytes of its own, these are the text's.
-use Rattle.std.proofs.Common.{◌≡◌, ℕ, ◌+◌, ◌-◌, ◌≤◌, ◌==◌, ◌&&◌, Bool, true, false, List, [], ◌∷◌, ◌++◌, length, take, drop, Option, Some, None, option_and_then, if◌then◌else◌, refl, subst, sym, ap, ◌∙◌, arith, append_assoc, length-append, length-drop, take-append-drop, eqb-true, leb-true}
+use Rattle.std.proofs.Common.{◌≡◌, ℕ, ◌+◌, ◌-◌, ◌≤◌, ◌&&◌, Bool, true, false, List, [], ◌∷◌, ◌++◌, length, take, drop, Option, Some, None, option_and_then, if◌then◌else◌, refl, subst, sym, ap, ◌∙◌, arith, append_assoc, length-append, length-drop, take-append-drop, eqb-true, leb-true}
 use Rattle.std.proofs.lemmas.List.{length-take-le}
 use Rattle.std.proofs.lemmas.Option.{none-some, same_Some}
-use Rattle.std.specs.Cmp.Lexicographic.{pointwise, same_text}
-use Rattle.std.specs.Prelude.{nat_eq, nat_le}
+use Rattle.std.specs.Cmp.Lexicographic.{same_text}
 use Rattle.toml_spans.specs.Ranges.{IsAt, Range, Ranges}
 use Rattle.toml_spans.specs.Step.{PathStep}
 use Rattle.nextest_config_filters.specs.Fault.{Fault as TextFault}
 use Rattle.nextest_config_lint.specs.TextRange.{bytes_at, is_plain, lies_in, opening_of, plain_range, quotes_of, range_behind, range_in_string, text_at}
 
 -- what a fault tells of a text
-abbrev told_by : TextFault → List ℕ → List ℕ
-told_by fault text = take (fault.end - fault.begin) (drop fault.begin text)
+abbrev reported_by : TextFault → List ℕ → List ℕ
+reported_by fault text = take (fault.end - fault.begin) (drop fault.begin text)
 
 -- both are so
 both : (p q : Bool) → (p && q) ≡ true → (p ≡ true) × (q ≡ true)
@@ -23,8 +22,8 @@ module _ (contents before text behind : List ℕ) (b e : ℕ) (whole : contents 
   abbrev first : List ℕ
   first = take b text
 
-  abbrev told : List ℕ
-  told = take (e - b) (drop b text)
+  abbrev reported : List ℕ
+  reported = take (e - b) (drop b text)
 
   abbrev rest : List ℕ
   rest = drop (e - b) (drop b text)
@@ -32,23 +31,23 @@ module _ (contents before text behind : List ℕ) (b e : ℕ) (whole : contents 
   first_size : length first ≡ b
   first_size = length-take-le b text (omega (arith, in_order, fits))
 
-  told_size : length told ≡ e - b
-  told_size = length-take-le (e - b) (drop b text) (omega (arith, length-drop b text, in_order, fits))
+  reported_size : length reported ≡ e - b
+  reported_size = length-take-le (e - b) (drop b text) (omega (arith, length-drop b text, in_order, fits))
 
-  joined : first ++ (told ++ rest) ≡ text
+  joined : first ++ (reported ++ rest) ≡ text
   joined = ap (λ it. first ++ it) (take-append-drop (e - b) (drop b text)) ∙ take-append-drop b text
 
-  in_parts : before ++ ((first ++ (told ++ rest)) ++ behind) ≡ (before ++ first) ++ (told ++ (rest ++ behind))
-  in_parts = cc (append_assoc first (told ++ rest) behind, append_assoc told rest behind, append_assoc before first (told ++ (rest ++ behind)))
+  in_parts : before ++ ((first ++ (reported ++ rest)) ++ behind) ≡ (before ++ first) ++ (reported ++ (rest ++ behind))
+  in_parts = cc (append_assoc first (reported ++ rest) behind, append_assoc reported rest behind, append_assoc before first (reported ++ (rest ++ behind)))
 
   -- what stands in a text that stands in another
-  pub inside : IsAt contents (length before + b, length before + e) told
+  pub inside : IsAt contents (length before + b, length before + e) reported
   inside = record {
     before = before ++ first;
     behind = rest ++ behind;
     whole = whole ∙ ap (λ it. before ++ (it ++ behind)) (sym joined) ∙ in_parts;
     begins = omega (arith, length-append before first, first_size);
-    ends = omega (arith, length-append (before ++ first) told, length-append before first, first_size, told_size, in_order);
+    ends = omega (arith, length-append (before ++ first) reported, length-append before first, first_size, reported_size, in_order);
   }
 
 -- ---- of a string
@@ -94,30 +93,30 @@ plain_stands contents (b ∷ text) value plain =
     let (size, same) = both _ _ plain in
     stands contents (b ∷ text) value (eqb-true _ _ size) (same_text _ _ (sym same)) (omega arith)
 
-string_told : (contents text : List ℕ) (fault : TextFault) (value range : Range) (plain : Bool) → is_plain (bytes_at contents value) text && lies_in text fault ≡ plain
-    → (if plain then Some (range_behind (value.0 + opening_of (bytes_at contents value)) fault) else None) ≡ Some range → IsAt contents range (told_by fault text)
-string_told contents text fault value range false so is = absurd (none-some range is)
-string_told contents text fault value range true so is =
+string_reported : (contents text : List ℕ) (fault : TextFault) (value range : Range) (plain : Bool) → is_plain (bytes_at contents value) text && lies_in text fault ≡ plain
+    → (if plain then Some (range_behind (value.0 + opening_of (bytes_at contents value)) fault) else None) ≡ Some range → IsAt contents range (reported_by fault text)
+string_reported contents text fault value range false so is = absurd (none-some range is)
+string_reported contents text fault value range true so is =
     let (plain, within) = both _ _ so in
     let (in_order, fits) = both _ _ within in
     let there = plain_stands contents text value plain in
-    let at : IsAt contents (length there.before + fault.begin, length there.before + fault.end) (told_by fault text) =
+    let at : IsAt contents (length there.before + fault.begin, length there.before + fault.end) (reported_by fault text) =
     inside contents there.before text there.behind fault.begin fault.end there.whole (leb-true _ _ in_order) (leb-true _ _ fits) in
-    subst (λ it. IsAt contents it (told_by fault text)) (same_Some _ range is)
-    (subst (λ size. IsAt contents (size + fault.begin, size + fault.end) (told_by fault text)) there.begins at)
+    subst (λ it. IsAt contents it (reported_by fault text)) (same_Some _ range is)
+    (subst (λ size. IsAt contents (size + fault.begin, size + fault.end) (reported_by fault text)) there.begins at)
 
 -- ---- of what a path leads to
 
 -- the file has there what the fault tells of the text
-abbrev pub IsToldOf : List ℕ → Option (List ℕ) → TextFault → Range → Type 0
-IsToldOf contents found fault range = (text : List ℕ) × (found ≡ Some text) × IsAt contents range (told_by fault text)
+abbrev pub IsReportedOf : List ℕ → Option (List ℕ) → TextFault → Range → Type 0
+IsReportedOf contents found fault range = (text : List ℕ) × (found ≡ Some text) × IsAt contents range (reported_by fault text)
 
-told_of : (contents : List ℕ) (found : Option (List ℕ)) (value : Option Range) (fault : TextFault) (range : Range)
-    → option_and_then (λ text. option_and_then (range_in_string contents text fault) value) found ≡ Some range → IsToldOf contents found fault range
-told_of contents None value fault range is = absurd (none-some range is)
-told_of contents (Some text) None fault range is = absurd (none-some range is)
-told_of contents (Some text) (Some value) fault range is = (text, refl, string_told contents text fault value range _ refl is)
+reported_of : (contents : List ℕ) (found : Option (List ℕ)) (value : Option Range) (fault : TextFault) (range : Range)
+    → option_and_then (λ text. option_and_then (range_in_string contents text fault) value) found ≡ Some range → IsReportedOf contents found fault range
+reported_of contents None value fault range is = absurd (none-some range is)
+reported_of contents (Some text) None fault range is = absurd (none-some range is)
+reported_of contents (Some text) (Some value) fault range is = (text, refl, string_reported contents text fault value range _ refl is)
 
-pub plain_told : (contents : List ℕ) (ranges : Ranges) (path : List PathStep) (fault : TextFault) (range : Range) → plain_range contents ranges path fault ≡ Some range
-    → IsToldOf contents (text_at contents path) fault range
-plain_told contents ranges path fault range is = told_of contents (text_at contents path) (ranges.of_value path) fault range is
+pub plain_reported : (contents : List ℕ) (ranges : Ranges) (path : List PathStep) (fault : TextFault) (range : Range) → plain_range contents ranges path fault ≡ Some range
+    → IsReportedOf contents (text_at contents path) fault range
+plain_reported contents ranges path fault range is = reported_of contents (text_at contents path) (ranges.of_value path) fault range is

@@ -8,17 +8,16 @@ use Rattle.nextest_config_values.specs.Read.Fault.{Cause, Fault}
 use Rattle.nextest_config_values.specs.Read.Readings.{IsFaultBelow}
 use Rattle.nextest_config_values.specs.Read.{Always, either, FaultOrMemory, fault_with, optional}
 use Rattle.nextest_config.specs.NextestVersion.{in_order, recommended_key, required_key, version_reading, version_table, Versions, versions_reading}
-use Rattle.nextest_config_lint.specs.Rules.{if_table, IsOutOfOrder, order_check}
+use Rattle.nextest_config_lint.specs.Rules.{if_table, IsOutOfOrder, order_check, out_of_order}
 
 -- a fault below a step isn't here
 never_here : (step : PathStep) (faults : Data → Fault → Type 0) (found : Option Data) (fault : Fault) → either found (λ value. IsFaultBelow step (faults value)) (λ f. ⊥) fault → fault.steps ≡ [] → ⊥
 never_here step faults (Some value) fault (below, wrong, is) here = cc (ap (λ (f : Fault). f.steps) is, here)
 never_here step faults None fault wrong here = wrong
 
-by_versions : (held : Members) (a b : Option Parts) (fault : Fault) → (optional required_key version_reading).means held a → (optional recommended_key version_reading).means held b
+pub by_versions : (held : Members) (a b : Option Parts) (fault : Fault) → (optional required_key version_reading).means held a → (optional recommended_key version_reading).means held b
     → (in_order a b).faults tt fault → IsOutOfOrder held fault
-by_versions held (Some a) (Some b) fault there there_too (inl (below, is)) =
-    record { required = a; recommended = b; required_there = there; recommended_there = there_too; is_below = below; is = is }
+by_versions held (Some a) (Some b) fault there there_too (inl (below, is)) = out_of_order held a b fault there there_too below is
 by_versions held (Some a) (Some b) fault there there_too (inr (kept, wrong)) = absurd wrong
 by_versions held (Some a) None fault there there_too wrong = absurd wrong
 by_versions held None b fault there there_too wrong = absurd wrong
@@ -34,7 +33,7 @@ here_is_order (table held) fault some wrong here = table_order held fault wrong 
 here_is_order value fault some wrong here = absurd (cc some)
 
 order_is_fault : (held : Members) (fault : Fault) → IsOutOfOrder held fault → version_table.faults held fault
-order_is_fault held fault out = inr (Some out.required, out.required_there, inr (Some out.recommended, out.recommended_there, inl (out.is_below, out.is)))
+order_is_fault held fault out = inr (Some out.required, out.there.0, inr (Some out.recommended, out.there.1, inl (out.is_below, out.is)))
 
 order_here : (held : Members) (fault : Fault) → IsOutOfOrder held fault → fault.steps ≡ []
 order_here held fault out = ap (λ (f : Fault). f.steps) out.is
@@ -53,7 +52,7 @@ read_in_order value asked means = tt
 
 module _ (M W : Type 0) (P : Fault → Type 0) where
   -- a refusal of memory is one for whatever is refused
-  pub memory_stays : (Q : Fault → Type 0) (told : Option Fault) → true ≡ is_none told → FaultOrMemory told (M × W) P → FaultOrMemory told (M × Always) Q
+  pub memory_stays : (Q : Fault → Type 0) (reported : Option Fault) → true ≡ is_none reported → FaultOrMemory reported (M × W) P → FaultOrMemory reported (M × Always) Q
   memory_stays Q None none refused = (refused.0, tt)
   memory_stays Q (Some fault) none refused = cc none
 
@@ -65,10 +64,10 @@ module _ (M W : Type 0) (P : Fault → Type 0) where
   refused_here Q steps None here some refused weaker = cc some
 
   -- a refusal for a fault elsewhere
-  pub told_elsewhere : (Q : Type 0) (steps : List PathStep) (cause : Option Cause) → (steps ≡ [] → ⊥) → false ≡ is_none (option_map (fault_with steps) cause)
+  pub reported_elsewhere : (Q : Type 0) (steps : List PathStep) (cause : Option Cause) → (steps ≡ [] → ⊥) → false ≡ is_none (option_map (fault_with steps) cause)
       → FaultOrMemory (option_map (fault_with steps) cause) (M × W) P → ((fault : Fault) → (fault.steps ≡ [] → ⊥) → P fault → Q) → Q
-  told_elsewhere Q steps (Some cause) elsewhere some refused weaker = weaker (fault_with steps cause) elsewhere refused
-  told_elsewhere Q steps None elsewhere some refused weaker = cc some
+  reported_elsewhere Q steps (Some cause) elsewhere some refused weaker = weaker (fault_with steps cause) elsewhere refused
+  reported_elsewhere Q steps None elsewhere some refused weaker = cc some
 
 -- steps that are none, or some
 pub none_left : {A B : Type 0} (f : A → B) (xs : List A) → length xs ≡ 0 → map f xs ≡ []

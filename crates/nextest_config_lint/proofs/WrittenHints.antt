@@ -8,8 +8,8 @@ use Rattle.nextest_config.specs.declared.nextest_version.edition.Edition.TheVari
 use Rattle.nextest_config_elements.specs.MaxFail.{IsNumberText, number_parts, one_number}
 use Rattle.nextest_config_elements.specs.declared.field.Shape.{Shape}
 use Rattle.nextest_config_elements.specs.declared.field.Shape.TheVariants as shapes
-use Rattle.nextest_config_lint.specs.Found.{Meant, the_toml}
-use Rattle.nextest_config_lint.specs.Hints.Written.{IsHintIfTaken, IsMeantByText, IsWrittenHint, Writes}
+use Rattle.nextest_config_lint.specs.Found.{Suggestion, the_toml}
+use Rattle.nextest_config_lint.specs.Hints.Written.{IsHintIfTaken, IsSuggestedByText, IsWrittenHint, Writes}
 use Rattle.nextest_config_lint.specs.Shapes.{shape_check}
 
 no_number : (truth : Bool) (number : ℤ) → IsNumberText (if truth then codes "true" else codes "false") number → ⊥
@@ -33,19 +33,19 @@ one_written text a b h k = absurd h
 
 -- ---- and so it has one hint
 
-one_literal : (text told other : List ℕ) (value : Data) → Writes text value → IsLiteral value told → IsLiteral value other → told ≡ other
-one_literal text told other (boolean truth) writes h k = h ∙ sym k
-one_literal text told other (integer number) writes h k = h ∙ sym k
-one_literal text told other value writes h k = absurd writes
+one_literal : (text reported other : List ℕ) (value : Data) → Writes text value → IsLiteral value reported → IsLiteral value other → reported ≡ other
+one_literal text reported other (boolean truth) writes h k = h ∙ sym k
+one_literal text reported other (integer number) writes h k = h ∙ sym k
+one_literal text reported other value writes h k = absurd writes
 
-taken_once : (shape : Shape) (text : List ℕ) (value : Data) → Writes text value → (a b : Option Meant) → IsHintIfTaken shape value a → IsHintIfTaken shape value b → a ≡ b
+taken_once : (shape : Shape) (text : List ℕ) (value : Data) → Writes text value → (a b : Option Suggestion) → IsHintIfTaken shape value a → IsHintIfTaken shape value b → a ≡ b
 taken_once shape text value writes None None h k = refl
-taken_once shape text value writes None (Some meant) h k = absurd (h k.0)
-taken_once shape text value writes (Some meant) None h k = absurd (k h.0)
-taken_once shape text value writes (Some meant) (Some other) (takes, (told, is, so)) (also, (told_too, is_too, so_too)) =
-    ap Some (so ∙ ap the_toml (one_literal text told told_too value writes is is_too) ∙ sym so_too)
+taken_once shape text value writes None (Some suggestion) h k = absurd (h k.0)
+taken_once shape text value writes (Some suggestion) None h k = absurd (k h.0)
+taken_once shape text value writes (Some suggestion) (Some other) (takes, (reported, is, so)) (also, (reported_too, is_too, so_too)) =
+    ap Some (so ∙ ap the_toml (one_literal text reported reported_too value writes is is_too) ∙ sym so_too)
 
-pub written_once : (shape : Shape) (text : Option (List ℕ)) (a b : Option Meant) → IsWrittenHint shape text a → IsWrittenHint shape text b → a ≡ b
+pub written_once : (shape : Shape) (text : Option (List ℕ)) (a b : Option Suggestion) → IsWrittenHint shape text a → IsWrittenHint shape text b → a ≡ b
 written_once shape None a b h k = h ∙ sym k
 written_once shape (Some text) a b (inl (value, writes, meant)) (inl (other, also, meant_too)) =
     taken_once shape text value writes a b meant (subst (λ it. IsHintIfTaken shape it b) (one_written text other value also writes) meant_too)
@@ -63,7 +63,7 @@ taken_under TableOnly shapes.Experimental text value writes passes = absurd writ
 taken_under TableOnly shapes.FeatureName text value writes passes = tt
 taken_under TableOnly shape text value writes passes = passes
 
-pub hint_taken : (edition : Edition) (shape : Shape) (text : List ℕ) (meant : Meant) → IsMeantByText shape text (Some meant)
-    → (value : Data) × Writes text value × (shape_check edition shape).passes value × ((told : List ℕ) × IsLiteral value told × (meant ≡ the_toml told))
-hint_taken edition shape text meant (inl (value, writes, (takes, told))) = (value, writes, taken_under edition shape text value writes takes, told)
-hint_taken edition shape text meant (inr (none, is)) = cc is
+pub hint_taken : (edition : Edition) (shape : Shape) (text : List ℕ) (suggestion : Suggestion) → IsSuggestedByText shape text (Some suggestion)
+    → (value : Data) × Writes text value × (shape_check edition shape).passes value × ((reported : List ℕ) × IsLiteral value reported × (suggestion ≡ the_toml reported))
+hint_taken edition shape text suggestion (inl (value, writes, (takes, reported))) = (value, writes, taken_under edition shape text value writes takes, reported)
+hint_taken edition shape text suggestion (inr (none, is)) = cc is

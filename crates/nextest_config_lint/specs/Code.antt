@@ -1,7 +1,8 @@
 -- The codes of findings.
 use Rattle.std.specs.Prelude.{◌≡◌, ℕ, List, [], ◌∷◌, codes, Option, Some, None}
 use Rattle.std.proofs.Common.{rules}
-use Rattle.nextest_config_values.specs.Read.{BrokenRule, Reason, value_of}
+use Rattle.nextest_config_values.specs.Read.{BrokenRule, Reason, reason_of, value_of}
+use Rattle.nextest_config_values.specs.declared.read.fault.FaultKind.{FaultKind}
 use Rattle.nextest_config_values.specs.Read.Fault as faults
 use Rattle.nextest_config_filters.specs.Fault.{code_of}
 use Rattle.nextest_config_filters.specs.declared.fault.TextFaultCode.{TextFaultCode}
@@ -14,6 +15,49 @@ use Rattle.nextest_config_elements.specs.declared.named.NamedKind.{NamedKind}
 use Rattle.nextest_config_elements.specs.declared.named.NamedKind.TheVariants as kinds
 
 -- ---- their words
+
+-- the word of a code, by which it is printed and asked for
+abbrev pub code_word : FindingCode → List ℕ
+code_word code.NotUtf8 = codes "not-utf8"
+code_word code.NotToml = codes "not-toml"
+code_word code.InvalidType = codes "invalid-type"
+code_word code.InvalidValue = codes "invalid-value"
+code_word code.UnknownVariant = codes "unknown-variant"
+code_word code.UnknownField = codes "unknown-field"
+code_word code.MissingField = codes "missing-field"
+code_word code.PreRelease = codes "pre-release"
+code_word code.BuildMetadata = codes "build-metadata"
+code_word code.NotVersion = codes "not-version"
+code_word code.RequiredAboveRecommended = codes "required-above-recommended"
+code_word code.JitterWithoutDelay = codes "jitter-without-delay"
+code_word code.CountZero = codes "count-zero"
+code_word code.DelayZero = codes "delay-zero"
+code_word code.MaxDelayZero = codes "max-delay-zero"
+code_word code.MaxDelayBelowDelay = codes "max-delay-below-delay"
+code_word code.Priority = codes "priority"
+code_word code.ArrayForm = codes "array-form"
+code_word code.ToolFeatures = codes "tool-features"
+code_word code.UnknownFeature = codes "unknown-feature"
+code_word code.UnknownKey = codes "unknown-key"
+code_word code.UndefinedGroup = codes "undefined-group"
+code_word code.UndefinedProfile = codes "undefined-profile"
+code_word code.DefaultInherits = codes "default-inherits"
+code_word code.InheritsItself = codes "inherits-itself"
+code_word code.OverrideOfAll = codes "override-of-all"
+code_word code.ReservedProfile = codes "reserved-profile"
+code_word code.GroupName = codes "group-name"
+code_word code.UndefinedScript = codes "undefined-script"
+code_word code.ScriptName = codes "script-name"
+code_word code.FeatureNotEnabled = codes "feature-not-enabled"
+code_word code.OverrideDefaultFilter = codes "override-default-filter"
+code_word code.FilterSyntax = codes "filter-syntax"
+code_word code.UnknownPredicate = codes "unknown-predicate"
+code_word code.BannedPredicate = codes "banned-predicate"
+code_word code.FilterArgument = codes "filter-argument"
+code_word code.PlatformSyntax = codes "platform-syntax"
+code_word code.PlatformWord = codes "platform-word"
+code_word code.UnjudgedDuration = codes "unjudged-duration"
+code_word code.DeprecatedArray = codes "deprecated-array"
 
 -- all codes, in the order in which they are listed
 abbrev pub codes_in_order : List FindingCode
@@ -60,49 +104,6 @@ codes_in_order =
     ∷ code.DeprecatedArray
     ∷ []
 
--- the word of a code, by which it is printed and asked for
-abbrev pub code_word : FindingCode → List ℕ
-code_word code.NotUtf8 = codes "not-utf8"
-code_word code.NotToml = codes "not-toml"
-code_word code.InvalidType = codes "invalid-type"
-code_word code.InvalidValue = codes "invalid-value"
-code_word code.UnknownVariant = codes "unknown-variant"
-code_word code.UnknownField = codes "unknown-field"
-code_word code.MissingField = codes "missing-field"
-code_word code.PreRelease = codes "pre-release"
-code_word code.BuildMetadata = codes "build-metadata"
-code_word code.NotVersion = codes "not-version"
-code_word code.RequiredAboveRecommended = codes "required-above-recommended"
-code_word code.JitterWithoutDelay = codes "jitter-without-delay"
-code_word code.CountZero = codes "count-zero"
-code_word code.DelayZero = codes "delay-zero"
-code_word code.MaxDelayZero = codes "max-delay-zero"
-code_word code.MaxDelayBelowDelay = codes "max-delay-below-delay"
-code_word code.Priority = codes "priority"
-code_word code.ArrayForm = codes "array-form"
-code_word code.ToolFeatures = codes "tool-features"
-code_word code.UnknownFeature = codes "unknown-feature"
-code_word code.UnknownKey = codes "unknown-key"
-code_word code.UndefinedGroup = codes "undefined-group"
-code_word code.UndefinedProfile = codes "undefined-profile"
-code_word code.DefaultInherits = codes "default-inherits"
-code_word code.InheritsItself = codes "inherits-itself"
-code_word code.OverrideOfAll = codes "override-of-all"
-code_word code.ReservedProfile = codes "reserved-profile"
-code_word code.GroupName = codes "group-name"
-code_word code.UndefinedScript = codes "undefined-script"
-code_word code.ScriptName = codes "script-name"
-code_word code.FeatureNotEnabled = codes "feature-not-enabled"
-code_word code.OverrideDefaultFilter = codes "override-default-filter"
-code_word code.FilterSyntax = codes "filter-syntax"
-code_word code.UnknownPredicate = codes "unknown-predicate"
-code_word code.BannedPredicate = codes "banned-predicate"
-code_word code.FilterArgument = codes "filter-argument"
-code_word code.PlatformSyntax = codes "platform-syntax"
-code_word code.PlatformWord = codes "platform-word"
-code_word code.UnjudgedDuration = codes "unjudged-duration"
-code_word code.DeprecatedArray = codes "deprecated-array"
-
 pub code_reads_back : (one : FindingCode)
     → value_of code_word codes_in_order (code_word one) ≡ Some one
 code_reads_back one = search rules
@@ -111,11 +112,11 @@ code_reads_back one = search rules
 
 -- the code for a rule that is broken
 abbrev pub rule_code : BrokenRule → FindingCode
+rule_code faults.array_form = code.ArrayForm
 rule_code faults.pre_release = code.PreRelease
 rule_code faults.build_metadata = code.BuildMetadata
 rule_code (faults.not_version text) = code.NotVersion
 rule_code (faults.required_above_recommended required recommended) = code.RequiredAboveRecommended
-rule_code faults.array_form = code.ArrayForm
 rule_code faults.jitter_without_delay = code.JitterWithoutDelay
 rule_code faults.count_zero = code.CountZero
 rule_code faults.delay_zero = code.DelayZero
@@ -133,6 +134,15 @@ reason_code (faults.missing_field key) = code.MissingField
 reason_code (faults.custom rule) = rule_code rule
 reason_code (faults.identifier fault) = code.InvalidValue
 reason_code (faults.tool_name fault) = code.InvalidValue
+
+-- the code for what a fault reports; of a refusal of memory, which reports nothing, `invalid-value`
+abbrev pub reason_reported_code : Option Reason → FindingCode
+reason_reported_code (Some reason) = reason_code reason
+reason_reported_code None = code.InvalidValue
+
+-- the code for a fault, by what it reports
+abbrev pub fault_code : FaultKind → FindingCode
+fault_code fault = reason_reported_code (reason_of fault)
 
 -- the code for what is wrong with a text
 abbrev pub text_code : TextFaultCode → FindingCode
@@ -180,7 +190,8 @@ found_code (found.deprecated_array table) = code.DeprecatedArray
 found_code found.not_utf8 = code.NotUtf8
 found_code (found.not_toml message mistake) = code.NotToml
 
--- the code of what a finding tells; of a refusal of memory, which tells nothing, `invalid-value`
-abbrev pub told_code : Option FoundKind → FindingCode
-told_code (Some kind) = found_code kind
-told_code None = code.InvalidValue
+-- the code of what a finding reports; of a refusal of memory, which reports nothing,
+-- `invalid-value`
+abbrev pub reported_code : Option FoundKind → FindingCode
+reported_code (Some kind) = found_code kind
+reported_code None = code.InvalidValue

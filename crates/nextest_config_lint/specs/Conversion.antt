@@ -12,23 +12,18 @@ use Rattle.nextest_config_elements.specs.declared.field.Shape.TheVariants as sha
 
 -- ---- what may be made of a value
 
--- the text stands for true, whatever the case of its letters
-abbrev pub is_true_text : List ℕ → Bool
-is_true_text text =
-    ((str_eq_ignore_ascii_case text (codes "true") || str_eq_ignore_ascii_case text (codes "yes"))
-    || str_eq_ignore_ascii_case text (codes "on"))
-    || str_eq_ignore_ascii_case text (codes "1")
+-- the text is one of four words, whatever the case of its letters
+abbrev pub is_one_of : List ℕ → List ℕ → List ℕ → List ℕ → List ℕ → Bool
+is_one_of first second third last text =
+    ((str_eq_ignore_ascii_case text first || str_eq_ignore_ascii_case text second)
+    || str_eq_ignore_ascii_case text third)
+    || str_eq_ignore_ascii_case text last
 
--- the text stands for false, whatever the case of its letters
-abbrev pub is_false_text : List ℕ → Bool
-is_false_text text =
-    ((str_eq_ignore_ascii_case text (codes "false") || str_eq_ignore_ascii_case text (codes "no"))
-    || str_eq_ignore_ascii_case text (codes "off"))
-    || str_eq_ignore_ascii_case text (codes "0")
-
--- the text stands for a boolean, whatever the case of its letters
+-- the text stands for true or for false
 abbrev pub is_boolean_text : List ℕ → Bool
-is_boolean_text text = is_true_text text || is_false_text text
+is_boolean_text text =
+    is_one_of (codes "true") (codes "yes") (codes "on") (codes "1") text
+    || is_one_of (codes "false") (codes "no") (codes "off") (codes "0") text
 
 -- the text writes an integer of 64 bits
 abbrev pub IsIntegerText : List ℕ → Type 0

@@ -35,11 +35,6 @@ pub record ListFile : Type 0 where
 abbrev pub file_with : ConfigSourceKind → Option Members → ListFile
 file_with kind document = record { kind = kind; document = document }
 
--- a file of a list, without where it lies in memory
-abbrev pub file_of : ListedFile → ListFile
-file_of file =
-    file_with file.source.now (option_map (λ document. table_view document.now) file.document)
-
 -- this holds of some element of a list
 abbrev pub SomeOf : {A : Type 0} → (A → Type 0) → List A → Type 0
 SomeOf P [] = ⊥
@@ -61,6 +56,11 @@ table_below top key file = option_and_then (table_in key) (table_of top file)
 abbrev pub keys_of : Option Members → List (List ℕ)
 keys_of None = []
 keys_of (Some members) = names_of members
+
+-- a file of a list, without where it lies in memory
+abbrev pub file_of : ListedFile → ListFile
+file_of file =
+    file_with file.source.now (option_map (λ document. table_view document.now) file.document)
 
 -- the key of a file at which its test groups stand
 abbrev pub groups_key : List ℕ

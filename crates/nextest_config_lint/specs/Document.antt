@@ -5,11 +5,12 @@ use Rattle.nextest_config.specs.declared.nextest_version.edition.Edition.{Editio
 use Rattle.nextest_config.specs.declared.nextest_version.source.ConfigSourceKind.{ConfigSourceKind}
 use Rattle.nextest_config_lint.specs.Defined.{file_with, ListFile}
 use Rattle.nextest_config_lint.specs.Found.{AddsFound, AreFoundIn, AreFoundOf, Found}
-use Rattle.nextest_config_lint.specs.References.{in_list, IsJudgedIn, IsReferenceFound, judged_in}
+use Rattle.nextest_config_lint.specs.References.JudgedFile.{in_list, IsJudgedIn, judged_in}
+use Rattle.nextest_config_lint.specs.References.{IsReferenceFound}
 use Rattle.nextest_config_lint.specs.Settings.{settings_of, SettingView}
 use Rattle.nextest_config_elements.specs.Keys.{file_table}
 use Rattle.nextest_config_lint.specs.Unknown.{IsKeyFound, TableKey, keys_below, keys_in}
-use Rattle.nextest_config_lint.specs.Values.{AreFaultsFound, AreFeaturesFound, AreNotesFound, TellsValues}
+use Rattle.nextest_config_lint.specs.Values.{AreFaultsFound, AreFeaturesFound, AreNotesFound, ReportsValues}
 use Rattle.nextest_config_lint.specs.declared.document.FoundInValues.{FoundInValues}
 
 -- the keys that are judged: those of the top, and those of the tables that have a place
@@ -42,7 +43,7 @@ pub record AreFindings (edition : Edition) (kind : ConfigSourceKind) (files : Li
 pub record HasFound (start : FoundInValues) (settings : List SettingView) (found : FoundInValues)
     : Type 0 where
   pub file : found.file ≡ start.file
-  pub values : TellsValues start.file.edition start.file.source.now settings found.values
+  pub values : ReportsValues start.file.edition start.file.source.now settings found.values
   pub unknown : AddsFound IsKeyFound (flat_map keys_in settings) [] found.unknown.items
   pub references : (files : List ListFile) (members : Members) → IsJudgedIn files members start.file
       → AddsFound (IsReferenceFound (judged_in files members start.file)) settings []

@@ -6,7 +6,7 @@ use Rattle.nextest_config_values.specs.Read.Fault.{Cause, Fault}
 use Rattle.nextest_config_values.specs.Read.{no_duration, Reason, reason_at}
 use Rattle.toml_spans.specs.Line.{found_below}
 use Rattle.toml_spans.specs.Step.{PathStep, printed_path}
-use Rattle.nextest_config_lint.specs.Found.{Found, FoundKind, Meant, refused}
+use Rattle.nextest_config_lint.specs.Found.{Found, FoundKind, Suggestion, refused}
 use Rattle.nextest_config_lint.specs.Hints.{IsFaultHint}
 use Rattle.nextest_config_lint.specs.Settings.{SettingView}
 use Rattle.nextest_config_lint.specs.Severity.{IsSeverity}
@@ -26,14 +26,14 @@ abbrev pub IsUnjudged : Data → Fault → Type 0
 IsUnjudged value fault = IsNoDuration fault.cause
     × ((text : List ℕ) × (text_along value fault.steps ≡ Some text) × MayBeDuration text)
 
--- how a fault is told, for this reason
+-- how a fault is reported, for this reason
 abbrev pub IsFoundKind : SettingView → Fault → Reason → FoundKind → Type 0
-IsFoundKind setting fault reason kind = (severity : FindingSeverity) × (hint : Option Meant)
+IsFoundKind setting fault reason kind = (severity : FindingSeverity) × (hint : Option Suggestion)
     × IsSeverity setting fault severity × IsFaultHint setting fault hint
     × (kind ≡ refused reason severity hint)
 
--- what is found of a fault of what is judged: its path and the steps of the fault, and the cause, as it
--- is told there
+-- what is found of a fault of what is judged: its path and the steps of the fault, and the cause,
+-- as it is reported there
 pub record IsFoundOf (setting : SettingView) (fault : Fault) (found : Found) : Type 0 where
   pub path_is : found.path ≡ setting.path ++ fault.steps
   pub kind_is : IsFoundKind setting fault

@@ -8,7 +8,7 @@ use Rattle.nextest_config.specs.declared.nextest_version.source.ConfigSourceKind
 use Rattle.nextest_config.specs.declared.nextest_version.source.ConfigSourceKind.TheVariants.{DiscoveredRepository, ExplicitRepository, Tool}
 use Rattle.toml_spans.specs.Line.{step_from}
 use Rattle.toml_spans.specs.Step.{index, key, PathStep}
-use Rattle.nextest_config_lint.specs.Found.{AreFoundIn, deprecated_array, Found, found_at, IsNearestMeant, Meant, tool_names, unknown_name}
+use Rattle.nextest_config_lint.specs.Found.{AreFoundIn, deprecated_array, Found, found_at, IsNearestSuggestion, Suggestion, tool_names, unknown_name}
 
 -- ---- where a name stands
 
@@ -32,8 +32,8 @@ IsStepTo value name (key text) = IsFirstAt value name None × (text ≡ name)
 -- an unknown feature name, which may be meant for the nearest feature
 abbrev pub IsNameFound : List PathStep → Data → List ℕ → Option Found → Type 0
 IsNameFound path value name found =
-    (step : PathStep) × (hint : Option Meant) × IsStepTo value name step
-    × IsNearestMeant (map word_of all_features) name hint
+    (step : PathStep) × (hint : Option Suggestion) × IsStepTo value name step
+    × IsNearestSuggestion (map word_of all_features) name hint
     × (found ≡ Some (found_at (path ++ (step ∷ [])) (unknown_name name hint)))
 
 -- a tool's file that names features, known or not

@@ -1,7 +1,7 @@
 -- All that is found in a file, and where each finding stands.
 use Rattle.std.specs.Prelude.{◌≡◌, ◌⊎◌, ◌||◌, ℕ, Bool, true, false, List, [], ◌∷◌, ◌++◌, drop, IsSome, IsUtf8, map, nat_eq, Option, Some, None, take}
 use Rattle.std.specs.Cmp.Lexicographic.{pointwise}
-use Rattle.std.specs.List.{AllByRecursion, AllZip}
+use Rattle.std.specs.List.{AllZip}
 use Rattle.std.specs.List.Sorted.{IsPermutation, IsSortedByKey, IsStableByKey}
 use Rattle.std.specs.Option.{option_or}
 use Rattle.std.specs.Ordering.{nat_cmp, ordering_then}
@@ -59,7 +59,7 @@ IsDocument contents (Some members) = IsUtf8 contents × (parse_document contents
 
 -- ---- a file that is no document
 
--- what a located finding tells: its range, and what is found
+-- what a located finding reports: its range, and what is found
 abbrev pub located_view : LocatedFinding → Span × Option Found
 located_view located = (located.span, found_of located.finding)
 
@@ -69,16 +69,16 @@ pub record IsAlone (before front : List ℕ) (kind : FoundKind) (located : List 
   pub span : Span
   pub begins : IsPlace before span.begin
   pub ends : IsPlace front span.end
-  pub told : map located_view located ≡ (span, Some (found_at [] kind)) ∷ []
+  pub reported : map located_view located ≡ (span, Some (found_at [] kind)) ∷ []
 
 -- the file isn't UTF-8, where its longest front that is UTF-8 ends
 abbrev pub IsNotUtf8 : List ℕ → List LocatedFinding → Type 0
 IsNotUtf8 contents = let front = take (utf8_valid_len contents) contents in
     IsAlone front front not_utf8
 
--- what is told of a text that an error of `toml` refuses, from where that begins to where it ends:
--- a message, and the mistake that is known there
-pub record IsToldBy (contents : List ℕ) (error : Error) (located : List LocatedFinding) : Type 0
+-- what is reported of a text that an error of `toml` refuses, from where that begins to where it
+-- ends: a message, and the mistake that is known there
+pub record IsReportedBy (contents : List ℕ) (error : Error) (located : List LocatedFinding) : Type 0
   where
     pub message : List ℕ
     pub mistake : Option Mistaken
@@ -92,7 +92,7 @@ pub record IsNotToml (contents : List ℕ) (located : List LocatedFinding) : Typ
   pub error : Error
   pub within : IsWithin contents error
   pub of_text : ¬ IsMemory error
-  pub told : IsToldBy contents error located
+  pub reported : IsReportedBy contents error located
 
 -- ---- the range of a finding
 
@@ -152,7 +152,7 @@ is_key_wrong path (feature_not_enabled script) = true
 is_key_wrong path (no_name kind fault) = is_definition path
 is_key_wrong path kind = false
 
--- the finding tells that a key is wrong, and not its value
+-- the finding reports that a key is wrong, and not its value
 abbrev pub is_of_key : Found → Bool
 is_of_key found = is_key_wrong found.path found.kind
 
@@ -167,21 +167,21 @@ range_at false ranges path = option_or (ranges.of_value path) (ranges.of_key pat
 abbrev pub range_of : Ranges → Found → Option Range
 range_of ranges found = range_at (is_of_key found) ranges (whole_path found)
 
--- the range of the bytes of a text that a finding tells
-abbrev pub told_range : List ℕ → Ranges → List PathStep → FoundKind → Option Range
-told_range contents ranges path (wrong_text fault) = plain_range contents ranges path fault
-told_range contents ranges path kind = None
+-- the range of the bytes of a text that a finding reports
+abbrev pub reported_range : List ℕ → Ranges → List PathStep → FoundKind → Option Range
+reported_range contents ranges path (wrong_text fault) = plain_range contents ranges path fault
+reported_range contents ranges path kind = None
 
--- the range of a finding: that of the bytes that it tells, or else that of what it is of
+-- the range of a finding: that of the bytes that it reports, or else that of what it is of
 abbrev pub range_for : List ℕ → Ranges → Found → Option Range
 range_for contents ranges found =
-    option_or (told_range contents ranges found.path found.kind) (range_of ranges found)
+    option_or (reported_range contents ranges found.path found.kind) (range_of ranges found)
 
 -- ---- the findings of a document
 
 -- what is found, at its range in the text
 pub record IsAtRange (contents : List ℕ) (found : Found) (located : LocatedFinding) : Type 0 where
-  pub told : found_of located.finding ≡ Some found
+  pub reported : found_of located.finding ≡ Some found
   pub index : Index
   pub of_text : IsIndexOf contents index
   pub at_range : IsSpanOf contents (range_for contents (ranges_in index) found)
@@ -224,17 +224,17 @@ AreLocated edition kind files position contents located =
 
 -- ---- findings on the way
 
--- what the finding tells stands at a value of the document
+-- what the finding reports stands at a value of the document
 abbrev pub IsIn : Members → Finding → Type 0
 IsIn members finding = (found : Found) × (found_of finding ≡ Some found)
     × IsSome (found_in members (whole_path found))
 
--- what the finding tells has a range in this index
+-- what the finding reports has a range in this index
 abbrev pub HasRange : Index → Finding → Type 0
 HasRange index finding = (found : Found) × (found_of finding ≡ Some found)
     × IsSome (range_of (ranges_in index) found)
 
--- the finding is at the range of what it tells
+-- the finding is at the range of what it reports
 abbrev pub IsLocated : List ℕ → Finding → LocatedFinding → Type 0
 IsLocated contents finding located = (found : Found) → found_of finding ≡ Some found
     → IsAtRange contents found located

@@ -3,16 +3,12 @@ use Rattle.std.specs.Prelude.{ℕ, List, [], ◌∷◌, ◌++◌, codes, decimal
 use Rattle.nextest_config_values.specs.Identifier.Error.{identifier_fault, identifier_fault_text}
 use Rattle.nextest_config_filters.specs.Fault.{fault_text, worded_fault_of}
 use Rattle.toml_spans.specs.QuotedText.{quoted_text}
-use Rattle.nextest_config_values.specs.Read.{kind_text, quoted_texts, Reason, reason_of, text_or_memory}
+use Rattle.nextest_config_values.specs.Read.{kind_text, quoted_texts, text_or_memory}
 use Rattle.toml_spans.specs.Step.{PathStep, printed_path, step_of}
-use Rattle.nextest_config_values.specs.declared.read.fault.FaultKind.{FaultKind}
-use Rattle.nextest_config_lint.specs.Code.{reason_code}
 use Rattle.nextest_config.specs.NextestVersion.{word_of}
 use Rattle.nextest_config_lint.specs.Defined.{feature_of}
 use Rattle.nextest_config_lint.specs.Found.{FoundKind, found_severity, kind_view}
 use Rattle.nextest_config_elements.specs.Named.{named_text, plural_text, script_text}
-use Rattle.nextest_config_lint.specs.declared.code.FindingCode.{FindingCode}
-use Rattle.nextest_config_lint.specs.declared.code.FindingCode.TheVariants as code
 use Rattle.nextest_config_lint.specs.declared.finding.Finding.{Finding}
 use Rattle.nextest_config_lint.specs.declared.finding.FindingKind.{FindingKind}
 use Rattle.nextest_config_lint.specs.declared.finding.FindingKind.TheVariants as kinds
@@ -25,29 +21,20 @@ use Rattle.nextest_config_lint.specs.declared.finding.Scope.TheVariants as scope
 use Rattle.nextest_config_lint.specs.declared.finding.FindingSeverity.{FindingSeverity}
 use Rattle.nextest_config_lint.specs.declared.finding.FindingSeverity.TheVariants.{Error, Note, Warning}
 
--- how grave what is told is; a refusal of memory, which tells nothing, is an error
-abbrev pub told_severity : Option FoundKind → FindingSeverity
-told_severity (Some kind) = found_severity kind
-told_severity None = Error
+-- how grave what is reported is; a refusal of memory, which reports nothing, is an error
+abbrev pub reported_severity : Option FoundKind → FindingSeverity
+reported_severity (Some kind) = found_severity kind
+reported_severity None = Error
 
--- a kind of finding is as grave as what it tells
+-- a kind of finding is as grave as what it reports
 abbrev pub finding_severity : FindingKind → FindingSeverity
-finding_severity kind = told_severity (kind_view kind)
+finding_severity kind = reported_severity (kind_view kind)
 
 -- severities by number, the graver the greater
 abbrev pub rank : FindingSeverity → ℕ
 rank Note = 0
 rank Warning = 1
 rank Error = 2
-
--- the code of what a fault tells; of a refusal of memory, which tells nothing, `invalid-value`
-abbrev pub reason_told_code : Option Reason → FindingCode
-reason_told_code (Some reason) = reason_code reason
-reason_told_code None = code.InvalidValue
-
--- the code of a fault, by what it tells
-abbrev pub fault_code : FaultKind → FindingCode
-fault_code fault = reason_told_code (reason_of fault)
 
 -- ---- how they print
 
@@ -77,41 +64,6 @@ mistake_text None = []
 abbrev pub name_text : List ℕ → List ℕ → Option Hint → List ℕ
 name_text said name hint = (said ++ quoted_text name) ++ hint_text hint
 
--- how what is found prints where that is never told with what may be meant; else nothing
-abbrev pub plain_text : FindingKind → List ℕ
-plain_text (kinds.ToolFeatures features) =
-    codes "experimental features in a tool configuration: "
-    ++ quoted_texts (map string_bytes features.keys)
-plain_text kinds.DefaultInherits = codes "the profile \"default\" can't inherit"
-plain_text (kinds.InheritsItself profile) =
-    codes "the profile " ++ (quoted_text (string_bytes profile) ++ codes " inherits from itself")
-plain_text kinds.OverrideOfAll =
-    codes "an override needs a \"filter\" or a \"platform\""
-plain_text kinds.ScriptOfAll = codes "a script needs a \"filter\" or a \"platform\""
-plain_text kinds.DefaultFilterBeside =
-    codes "an override has a \"filter\" or a \"default-filter\", and not both"
-plain_text kinds.DefaultFilterAlone = codes "a \"default-filter\" needs a \"platform\""
-plain_text kinds.ReservedProfile =
-    codes "profile names that begin with \"default-\" are reserved"
-plain_text (kinds.NoName kind error) =
-    text_or_memory identifier_fault_text (identifier_fault error)
-plain_text (kinds.OutsideTool kind mark) =
-    codes "a tool's " ++ (plural_text kind ++ (codes " begin with " ++ quoted_text (string_bytes mark)))
-plain_text (kinds.NameOfTool kind) =
-    codes "only a tool's " ++ (plural_text kind ++ codes " begin with \"@\"")
-plain_text (kinds.OtherScript script name) =
-    quoted_text (string_bytes name) ++ (codes " is a " ++ script_text script)
-plain_text (kinds.SetupScriptToo name) =
-    quoted_text (string_bytes name) ++ codes " is a setup script, too"
-plain_text (kinds.FeatureNotEnabled script) = script_text script
-    ++ (codes "s need the experimental feature " ++ quoted_text (word_of (feature_of script)))
-plain_text kinds.UnjudgedDuration =
-    codes "not judged here: a duration other than whole numbers, each with a unit"
-plain_text (kinds.DeprecatedArray table) =
-    codes "the array form is deprecated, use a table: " ++ string_bytes table
-plain_text kinds.NotUtf8 = codes "not UTF-8"
-plain_text kind = []
-
 -- how what is found prints, without its path
 abbrev pub finding_kind_text : FindingKind → List ℕ
 finding_kind_text (kinds.Fault fault severity hint) = kind_text fault ++ hint_text hint
@@ -121,11 +73,43 @@ finding_kind_text (kinds.UnknownFeature name hint) =
 finding_kind_text (kinds.UnknownKey key hint) =
     name_text (codes "unknown key ") (string_bytes key) hint
 finding_kind_text (kinds.UndefinedName kind name hint) =
-    codes "no file defines the " ++ (named_text kind ++ name_text (codes " ") (string_bytes name) hint)
+    codes "no file defines the " ++ (named_text kind
+    ++ name_text (codes " ") (string_bytes name) hint)
 finding_kind_text (kinds.UndefinedProfile name hint) =
     name_text (codes "no file defines the profile ") (string_bytes name) hint
 finding_kind_text (kinds.NotToml message mistake) = string_bytes message ++ mistake_text mistake
-finding_kind_text kind = plain_text kind
+finding_kind_text kinds.DefaultInherits = codes "the profile \"default\" can't inherit"
+finding_kind_text (kinds.InheritsItself profile) =
+    codes "the profile " ++ (quoted_text (string_bytes profile) ++ codes " inherits from itself")
+finding_kind_text kinds.OverrideOfAll =
+    codes "an override needs a \"filter\" or a \"platform\""
+finding_kind_text kinds.ScriptOfAll = codes "a script needs a \"filter\" or a \"platform\""
+finding_kind_text kinds.DefaultFilterBeside =
+    codes "an override has a \"filter\" or a \"default-filter\", and not both"
+finding_kind_text kinds.DefaultFilterAlone = codes "a \"default-filter\" needs a \"platform\""
+finding_kind_text kinds.ReservedProfile =
+    codes "profile names that begin with \"default-\" are reserved"
+finding_kind_text (kinds.OtherScript script name) =
+    quoted_text (string_bytes name) ++ (codes " is a " ++ script_text script)
+finding_kind_text (kinds.NoName kind error) =
+    text_or_memory identifier_fault_text (identifier_fault error)
+finding_kind_text (kinds.OutsideTool kind mark) =
+    codes "a tool's " ++ (plural_text kind ++ (codes " begin with "
+    ++ quoted_text (string_bytes mark)))
+finding_kind_text (kinds.NameOfTool kind) =
+    codes "only a tool's " ++ (plural_text kind ++ codes " begin with \"@\"")
+finding_kind_text (kinds.SetupScriptToo name) =
+    quoted_text (string_bytes name) ++ codes " is a setup script, too"
+finding_kind_text (kinds.FeatureNotEnabled script) = script_text script
+    ++ (codes "s need the experimental feature " ++ quoted_text (word_of (feature_of script)))
+finding_kind_text (kinds.ToolFeatures features) =
+    codes "experimental features in a tool configuration: "
+    ++ quoted_texts (map string_bytes features.keys)
+finding_kind_text kinds.UnjudgedDuration =
+    codes "not judged here: a duration other than whole numbers, each with a unit"
+finding_kind_text (kinds.DeprecatedArray table) =
+    codes "the array form is deprecated, use a table: " ++ string_bytes table
+finding_kind_text kinds.NotUtf8 = codes "not UTF-8"
 
 -- a path before what is found there, unless it is empty
 abbrev pub path_front : List PathStep → List ℕ

@@ -1,5 +1,5 @@
 -- Findings without where they lie in memory.
-use Rattle.std.specs.Prelude.{◌≡◌, ℕ, List, [], ◌∷◌, ◌++◌, map, Option, Some, option_map, option_to_list, string_bytes, Vec}
+use Rattle.std.specs.Prelude.{◌≡◌, ◌⊎◌, ℕ, IsSome, List, [], ◌∷◌, ◌++◌, map, Option, None, Some, option_and_then, option_map, option_to_list, string_bytes, Vec}
 use Rattle.std.specs.declared.alloc.Global.{Global}
 use Rattle.nextest_config_values.specs.Identifier.Error.{identifier_fault}
 use Rattle.nextest_config_values.specs.Read.{identifier, Reason, reason_of}
@@ -19,21 +19,25 @@ use Rattle.nextest_config_lint.specs.declared.finding.FindingSeverity.TheVariant
 use Rattle.nextest_config_elements.specs.declared.named.NamedKind.{NamedKind}
 use Rattle.nextest_config_elements.specs.declared.named.ScriptKind.{ScriptKind}
 
--- what may be meant: a word, something as TOML writes it, or the key of the same name elsewhere
-pub data Meant : Type 0 where
-  the_word : List ℕ → Meant
-  the_toml : List ℕ → Meant
-  the_key : Scope → Meant
+-- a suggestion: a word, something as TOML writes it, or the key of the same name elsewhere
+pub data Suggestion : Type 0 where
+  the_word : List ℕ → Suggestion
+  the_toml : List ℕ → Suggestion
+  the_key : Scope → Suggestion
 
--- what a hint says is meant, without where it lies in memory
-abbrev pub meant_of : Hint → Meant
-meant_of (Word word) = the_word (string_bytes word)
-meant_of (Toml text) = the_toml (string_bytes text)
-meant_of (Belongs scope) = the_key scope
+-- what a hint suggests, without where it lies in memory
+abbrev pub suggestion_of : Hint → Suggestion
+suggestion_of (Word word) = the_word (string_bytes word)
+suggestion_of (Toml text) = the_toml (string_bytes text)
+suggestion_of (Belongs scope) = the_key scope
 
--- a name may be meant for the word that it comes nearest to, if there is one
-abbrev pub IsNearestMeant : List (List ℕ) → List ℕ → Option Meant → Type 0
-IsNearestMeant words name hint = (word : Option (List ℕ)) × IsNearest words name word
+-- this holds of what a hint suggests, if there is one
+abbrev pub Suggests : (Option Suggestion → Type 0) → Option Hint → Type 0
+Suggests IsSuggested hint = IsSuggested (option_map suggestion_of hint)
+
+-- for a name the word is suggested that it comes nearest to, if there is one
+abbrev pub IsNearestSuggestion : List (List ℕ) → List ℕ → Option Suggestion → Type 0
+IsNearestSuggestion words name hint = (word : Option (List ℕ)) × IsNearest words name word
     × (hint ≡ option_map the_word word)
 
 -- what is wrong in a text that is no document: a key stands on this line already, a value is
@@ -49,17 +53,17 @@ mistaken_of (mistakes.Repeated key line) = repeated (string_bytes key) line
 mistaken_of (mistakes.Misspelt word) = misspelt (string_bytes word)
 mistaken_of mistakes.Unquoted = unquoted
 
--- what is found, with what is told of it: a name, of which kind it is, a text, how grave it is, or
--- what may be meant
+-- what is found, with what is reported of it: a name, of which kind it is, a text, how grave it is,
+-- or what may be meant
 pub data FoundKind : Type 0 where
-  refused : Reason → FindingSeverity → Option Meant → FoundKind
+  refused : Reason → FindingSeverity → Option Suggestion → FoundKind
   wrong_text : TextFault → FoundKind
   tool_names : List (List ℕ) → FoundKind
-  unknown_name : List ℕ → Option Meant → FoundKind
-  unknown_key : List ℕ → Option Meant → FoundKind
-  undefined_name : NamedKind → List ℕ → Option Meant → FoundKind
+  unknown_name : List ℕ → Option Suggestion → FoundKind
+  unknown_key : List ℕ → Option Suggestion → FoundKind
+  undefined_name : NamedKind → List ℕ → Option Suggestion → FoundKind
   other_script : ScriptKind → List ℕ → FoundKind
-  undefined_profile : List ℕ → Option Meant → FoundKind
+  undefined_profile : List ℕ → Option Suggestion → FoundKind
   default_inherits : FoundKind
   inherits_itself : List ℕ → FoundKind
   override_of_all : FoundKind
@@ -84,23 +88,23 @@ pub record Found : Type 0 where
 
 -- a refusal, how grave it is, and what may be meant
 abbrev pub refused_with : FindingSeverity → Option Hint → Reason → FoundKind
-refused_with severity hint reason = refused reason severity (option_map meant_of hint)
+refused_with severity hint reason = refused reason severity (option_map suggestion_of hint)
 
--- what a kind of finding tells, unless it is a refusal of memory
+-- what a kind of finding reports, unless it is a refusal of memory
 abbrev pub kind_view : FindingKind → Option FoundKind
 kind_view (kinds.Fault fault severity hint) =
     option_map (refused_with severity hint) (reason_of fault)
 kind_view (kinds.Text fault) = Some (wrong_text (text_fault_of fault))
 kind_view (kinds.ToolFeatures features) = Some (tool_names (map string_bytes features.keys))
 kind_view (kinds.UnknownFeature name hint) =
-    Some (unknown_name (string_bytes name) (option_map meant_of hint))
+    Some (unknown_name (string_bytes name) (option_map suggestion_of hint))
 kind_view (kinds.UnknownKey key hint) =
-    Some (unknown_key (string_bytes key) (option_map meant_of hint))
+    Some (unknown_key (string_bytes key) (option_map suggestion_of hint))
 kind_view (kinds.UndefinedName kind name hint) =
-    Some (undefined_name kind (string_bytes name) (option_map meant_of hint))
+    Some (undefined_name kind (string_bytes name) (option_map suggestion_of hint))
 kind_view (kinds.OtherScript script name) = Some (other_script script (string_bytes name))
 kind_view (kinds.UndefinedProfile name hint) =
-    Some (undefined_profile (string_bytes name) (option_map meant_of hint))
+    Some (undefined_profile (string_bytes name) (option_map suggestion_of hint))
 kind_view kinds.DefaultInherits = Some default_inherits
 kind_view (kinds.InheritsItself profile) = Some (inherits_itself (string_bytes profile))
 kind_view kinds.OverrideOfAll = Some override_of_all
@@ -124,7 +128,7 @@ kind_view (kinds.NotToml message mistake) =
 abbrev pub found_at : List PathStep → FoundKind → Found
 found_at path kind = record { path = path; kind = kind }
 
--- what a finding tells, with its path, unless it is a refusal of memory
+-- what a finding reports, with its path, unless it is a refusal of memory
 abbrev pub found_of : Finding → Option Found
 found_of finding = option_map (found_at (map step_of finding.path.items)) (kind_view finding.kind)
 
@@ -134,16 +138,14 @@ found_severity (refused reason severity hint) = severity
 found_severity (tool_names names) = Error
 found_severity not_utf8 = Error
 found_severity (not_toml message mistake) = Error
-found_severity unjudged = Note
-found_severity (deprecated_array table) = Note
 found_severity (wrong_text fault) = Warning
 found_severity (unknown_name name hint) = Warning
-found_severity (unknown_key name hint) = Warning
+found_severity (unknown_key key hint) = Warning
 found_severity (undefined_name kind name hint) = Warning
 found_severity (other_script script name) = Warning
 found_severity (undefined_profile name hint) = Warning
 found_severity default_inherits = Warning
-found_severity (inherits_itself name) = Warning
+found_severity (inherits_itself profile) = Warning
 found_severity override_of_all = Warning
 found_severity script_of_all = Warning
 found_severity default_filter_beside = Warning
@@ -154,15 +156,40 @@ found_severity (outside_tool kind mark) = Warning
 found_severity (name_of_tool kind) = Warning
 found_severity (setup_script_too name) = Warning
 found_severity (feature_not_enabled script) = Warning
+found_severity unjudged = Note
+found_severity (deprecated_array table) = Note
 
--- the findings tell these, in this order
-abbrev pub Tells : List Finding → List Found → Type 0
-Tells findings all_found = map found_of findings ≡ map Some all_found
+-- the findings report these, in this order
+abbrev pub Reports : List Finding → List Found → Type 0
+Reports findings all_found = map found_of findings ≡ map Some all_found
 
--- the findings tell a list of which this holds
-abbrev pub TellsSome : (List Found → Type 0) → Vec Finding Global → Type 0
-TellsSome AreFound findings = (all_found : List Found) × AreFound all_found
-    × Tells findings.items all_found
+-- the findings report a list of which this holds
+abbrev pub ReportsSome : (List Found → Type 0) → Vec Finding Global → Type 0
+ReportsSome AreFound findings = (all_found : List Found) × AreFound all_found
+    × Reports findings.items all_found
+
+-- ---- of one thing that is judged
+
+-- this is reported where that holds, and else nothing
+abbrev pub IsReportedIf : Type 0 → FoundKind → Option FoundKind → Type 0
+IsReportedIf Holds kind reported = (Holds × (reported ≡ Some kind))
+    ⊎ ((Holds → ⊥) × (reported ≡ None))
+
+-- what is reported first, or where that is nothing, what is reported next
+abbrev pub IsFirstReported : (Option FoundKind → Type 0) → (Option FoundKind → Type 0)
+    → Option FoundKind → Type 0
+IsFirstReported IsFirst IsNext reported =
+    ((first : FoundKind) × IsFirst (Some first) × (reported ≡ Some first))
+    ⊎ (IsFirst None × IsNext reported)
+
+-- what is found is one of which this holds, without where it lies in memory
+abbrev pub HoldsInView : (Option FoundKind → Type 0) → Option FindingKind → Type 0
+HoldsInView IsReported kind = IsReported (option_and_then kind_view kind)
+
+-- a kind of finding, if there is one, reports something
+abbrev pub ReportsIfAny : Option FindingKind → Type 0
+ReportsIfAny None = Unit {0}
+ReportsIfAny (Some kind) = IsSome (kind_view kind)
 
 -- ---- one for each
 

@@ -13,18 +13,6 @@ pub record LinkView : Type 0 where
   pub position : ℕ
   pub parent : List ℕ
 
--- the link to this profile, by the file at this position
-abbrev pub link_at : ℕ → List ℕ → LinkView
-link_at position parent = record { position = position; parent = parent }
-
--- a link, without where it lies in memory
-abbrev pub link_view : Link → LinkView
-link_view link = link_at link.position link.parent.now
-
--- the link that is kept for a profile
-abbrev pub link_in : BTreeMap (Bor (List ℕ)) Link → List ℕ → Option LinkView
-link_in links profile = option_map link_view (get_by (λ key. slice_cmp nat_cmp profile key.now) links)
-
 -- the profile isn't `default`, and the value that counts stands in this file and names this parent
 abbrev pub IsLink : List ListFile → List ℕ → LinkView → Type 0
 IsLink files profile link = (profile ≢ default_profile)
@@ -41,6 +29,10 @@ abbrev pub AreLinksOf : List ListFile → (List ℕ → Option LinkView) → Typ
 AreLinksOf files links = (profile : List ℕ) (link : LinkView)
     → (links profile ≡ Some link) ↔ IsLink files profile link
 
+-- the link to this profile, by the file at this position
+abbrev pub link_at : ℕ → List ℕ → LinkView
+link_at position parent = record { position = position; parent = parent }
+
 -- the value of `inherits` of a profile in a table of these
 abbrev pub inherits_among : List ℕ → Members → Option Data
 inherits_among profile profiles =
@@ -50,3 +42,12 @@ inherits_among profile profiles =
 abbrev pub link_over : ℕ → Option Data → Option LinkView → Option LinkView
 link_over position None earlier = earlier
 link_over position (Some value) earlier = option_map (link_at position) (as_str value)
+
+-- a link, without where it lies in memory
+abbrev pub link_view : Link → LinkView
+link_view link = link_at link.position link.parent.now
+
+-- the link that is kept for a profile
+abbrev pub link_in : BTreeMap (Bor (List ℕ)) Link → List ℕ → Option LinkView
+link_in links profile = option_map link_view (get_by (λ key. slice_cmp nat_cmp profile key.now)
+    links)

@@ -144,7 +144,8 @@ abbrev pub IsRepeatedBy : List ℕ → Option Key → Option SoughtIn → Option
 IsRepeatedBy front (Some it) (Some section) mistake = IsRepeatedIn front section it mistake
 IsRepeatedBy front it section mistake = mistake ≡ None
 
--- the mistake of a statement, if its key stands in its section already (TOML 1.1, "Keys" and "Table")
+-- the mistake of a statement, if its key stands in its section already (TOML 1.1, "Keys" and
+-- "Table")
 abbrev pub IsRepeated : List ℕ → List ℕ → Option Mistaken → Type 0
 IsRepeated front statement =
     IsRepeatedBy front (statement_key statement) (section_of front statement)

@@ -11,8 +11,8 @@ same_link link = link
 abbrev pub position_of : LinkView → ℕ
 position_of link = link.position
 
--- a profile that a walk passed: it was left, and is kept now; a way leads there, and on to where the
--- walk is; and what it inherits from isn't left, or is where the walk is
+-- a profile that a walk passed: it was left, and is kept now; a way leads there, and on to where
+-- the walk is; and what it inherits from isn't left, or is where the walk is
 pub record IsPassed {Kept : Type 0} (files : List ListFile) (keep : LinkView → Kept)
     (from to : List ℕ) (before left : List ℕ → Option LinkView) (kept : List ℕ → Option Kept)
     (profile : List ℕ) : Type 0 where

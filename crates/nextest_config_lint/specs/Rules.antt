@@ -26,10 +26,21 @@ IsRecommended held = (optional recommended_key version_reading).means held
 pub record IsOutOfOrder (held : Members) (fault : Fault) : Type 0 where
   pub required : Parts
   pub recommended : Parts
-  pub required_there : IsRequired held (Some required)
-  pub recommended_there : IsRecommended held (Some recommended)
+  pub there : IsRequired held (Some required) × IsRecommended held (Some recommended)
   pub is_below : IsBelow recommended required
   pub is : fault ≡ broken_by (required_above_recommended required recommended)
+
+-- the versions that the table has are out of order
+pub out_of_order : (held : Members) (a b : Parts) (fault : Fault) → IsRequired held (Some a)
+    → IsRecommended held (Some b) → IsBelow b a
+    → fault ≡ broken_by (required_above_recommended a b) → IsOutOfOrder held fault
+out_of_order held a b fault there there_too below is = record {
+  required = a;
+  recommended = b;
+  there = (there, there_too);
+  is_below = below;
+  is = is;
+}
 
 one_required : (held : Members) (x y : Option Parts) → IsRequired held x → IsRequired held y
     → x ≡ y
@@ -45,9 +56,9 @@ kept_in_order : (held : Members) (a b : Parts) → IsRequired held (Some a)
     → IsOutOfOrder held fault → ⊥
 kept_in_order held a b there there_too kept fault out =
     let same : out.required ≡ a = cc
-    (one_required held (Some out.required) (Some a) out.required_there there) in
+    (one_required held (Some out.required) (Some a) out.there.0 there) in
     let same_too : out.recommended ≡ b = cc
-    (one_recommended held (Some out.recommended) (Some b) out.recommended_there there_too) in
+    (one_recommended held (Some out.recommended) (Some b) out.there.1 there_too) in
     kept (subst (λ (version : Parts). IsBelow version a) same_too
     (subst (λ (version : Parts). IsBelow out.recommended version) same out.is_below))
 
@@ -55,17 +66,8 @@ in_order_or_not : (held : Members) (a b : Parts) → IsRequired held (Some a)
     → IsRecommended held (Some b) → IsDecided (IsBelow b a)
     → ((fault : Fault) → IsOutOfOrder held fault → ⊥)
     ⊎ ((fault : Fault) × IsOutOfOrder held fault)
-in_order_or_not held a b there there_too (inl below) = inr (
-  broken_by (required_above_recommended a b),
-  record {
-    required = a;
-    recommended = b;
-    required_there = there;
-    recommended_there = there_too;
-    is_below = below;
-    is = refl;
-  },
-)
+in_order_or_not held a b there there_too (inl below) =
+    inr (_, out_of_order held a b _ there there_too below refl)
 in_order_or_not held a b there there_too (inr kept) =
     inl (kept_in_order held a b there there_too kept)
 
@@ -79,23 +81,23 @@ pub ordered_by : (held : Members)
 ordered_by held (inl (Some a, there)) (inl (Some b, there_too)) =
     in_order_or_not held a b there there_too (true_decided (is_below b a))
 ordered_by held (inl (None, there)) other = inl (λ fault out.
-    cc (one_required held None (Some out.required) there out.required_there))
+    cc (one_required held None (Some out.required) there out.there.0))
 ordered_by held (inr (f, wrong)) other = inl (λ fault out.
     (optional required_key version_reading).law.never_both held (Some out.required) f
-    out.required_there wrong)
+    out.there.0 wrong)
 ordered_by held required (inl (None, there)) = inl (λ fault out.
-    cc (one_recommended held None (Some out.recommended) there out.recommended_there))
+    cc (one_recommended held None (Some out.recommended) there out.there.1))
 ordered_by held required (inr (f, wrong)) = inl (λ fault out.
     (optional recommended_key version_reading).law.never_both held (Some out.recommended) f
-    out.recommended_there wrong)
+    out.there.1 wrong)
 
 pub one_out_of_order : (held : Members) (f g : Fault) → IsOutOfOrder held f
     → IsOutOfOrder held g → f ≡ g
 one_out_of_order held f g a b =
     let same : a.required ≡ b.required = cc (one_required held (Some a.required)
-    (Some b.required) a.required_there b.required_there) in
+    (Some b.required) a.there.0 b.there.0) in
     let same_too : a.recommended ≡ b.recommended = cc (one_recommended held
-    (Some a.recommended) (Some b.recommended) a.recommended_there b.recommended_there) in
+    (Some a.recommended) (Some b.recommended) a.there.1 b.there.1) in
     a.is ∙ ap₂ (λ (x y : Parts). broken_by (required_above_recommended x y)) same same_too
     ∙ sym b.is
 

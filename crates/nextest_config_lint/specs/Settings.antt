@@ -25,10 +25,10 @@ use Rattle.nextest_config_lint.specs.declared.settings.Setting.{Setting}
 use Rattle.nextest_config_lint.specs.declared.settings.Subject.{Subject as declared_subject}
 use Rattle.nextest_config_lint.specs.declared.settings.Subject.TheVariants as subjects
 
--- what is judged at a path: the value there, of a shape, and what stands in it; a key that the table
--- there has to have, and lacks; a key that the table there refuses, with the words that it says it
--- expects and the keys that it has; the rules between keys of the value there; or the features that
--- the value there names
+-- what is judged at a path: the value there, of a shape, and what stands in it; a key that the
+-- table there has to have, and lacks; a key that the table there refuses, with the words that it
+-- says it expects and the keys that it has; the rules between keys of the value there; or the
+-- features that the value there names
 pub data Subject : Type 0 where
   a_value : Shape → Parts → Data → Subject
   absent_key : List ℕ → Subject

@@ -1,5 +1,5 @@
--- What a value has to be, but for what stands in it: what each shape takes, and what is wrong with a
--- value that it doesn't take.
+-- What a value has to be, but for what stands in it: what each shape takes, and what is wrong with
+-- a value that it doesn't take.
 pub mod Forms
 use Rattle.std.specs.Prelude.{◌≡◌, ◌⊎◌, ℕ, List, codes, Option, Some, None, IsSome}
 use Rattle.std.proofs.Common.{inl, inr, refl, sym, ◌∙◌, subst}
@@ -91,8 +91,8 @@ unless accessor check = record {
 abbrev pub or_table : Check Data → Check Data
 or_table = unless as_table
 
--- what `experimental` has to be under an edition: a table or, where that is allowed, an array passes,
--- since what stands in it is judged by itself (TOML 1.1, "Array" and "Table")
+-- what `experimental` has to be under an edition: a table or, where that is allowed, an array
+-- passes, since what stands in it is judged by itself (TOML 1.1, "Array" and "Table")
 abbrev pub features_check : Edition → Check Data
 features_check ArrayAllowed = or_table (unless as_array (meaning (features_under ArrayAllowed)))
 features_check TableOnly = or_table (meaning (features_under TableOnly))

@@ -25,7 +25,7 @@ NamesFeatures edition subject value named =
     (subject ≡ features_at value) × (features_under edition).means value named
 
 -- nothing is wrong, and no feature is named; where a value of `experimental` doesn't read, what is
--- wrong is told where it stands
+-- wrong is reported where it stands
 abbrev pub IsRight : Edition → Subject → Type 0
 IsRight edition (a_value shape parts value) = (shape_check edition shape).passes value
 IsRight edition (absent_key name) = ⊥

@@ -1,10 +1,10 @@
--- Where a fault of a text stands in the file: where a string is written plain, at the bytes of the text
--- that it tells.
+-- Where a fault of a text stands in the file: where a string is written plain, at the bytes of the
+-- text that it reports.
 use Rattle.std.specs.Prelude.{◌≡◌, ℕ, ◌+◌, ◌-◌, ◌==◌, ◌&&◌, Bool, false, List, [], ◌∷◌, drop, if◌then◌else◌, length, nat_eq, nat_le, Option, Some, None, option_and_then, take}
 use Rattle.std.specs.Cmp.Lexicographic.{pointwise}
 use Rattle.toml.specs.Data.{as_str, Members}
 use Rattle.toml.specs.Parse.{parse_document}
-use Rattle.toml_spans.specs.Characters.{line_feed}
+use Rattle.toml_spans.specs.Characters.{carriage_return, line_feed}
 use Rattle.toml_spans.specs.Line.{found_in}
 use Rattle.toml_spans.specs.Ranges.{Range, Ranges}
 use Rattle.toml_spans.specs.Step.{PathStep}
@@ -21,9 +21,10 @@ quotes_of (a ∷ b ∷ c ∷ rest) = if a == b && a == c then 3 else 1
 quotes_of written = 1
 
 -- how many bytes the line end takes that a string begins with, where it has one: a line feed, or a
--- carriage return (13) before it
+-- carriage return before it
 abbrev pub line_end_of : List ℕ → ℕ
-line_end_of (a ∷ b ∷ rest) = if a == line_feed then 1 else if a == 13 && b == line_feed then 2 else 0
+line_end_of (a ∷ b ∷ rest) = if a == line_feed then 1
+    else if a == carriage_return && b == line_feed then 2 else 0
 line_end_of rest = 0
 
 -- how many bytes stand before the text of a string: its quotes, and a line end behind three of them
@@ -31,8 +32,8 @@ abbrev pub opening_of : List ℕ → ℕ
 opening_of written = let quotes = quotes_of written in
     if quotes == 3 then 3 + line_end_of (drop 3 written) else quotes
 
--- a string is written plain: behind what opens it, and before its quotes, stands its text, which isn't
--- empty, as it is
+-- a string is written plain: behind what opens it, and before its quotes, stands its text, which
+-- isn't empty, as it is
 abbrev pub is_plain : List ℕ → List ℕ → Bool
 is_plain written [] = false
 is_plain written (b ∷ text) =
@@ -69,7 +70,8 @@ text_at contents path = option_and_then (λ members. text_in members path) (pars
 -- the range of a fault of the text that a path leads to, where its string is written plain
 abbrev pub plain_range : List ℕ → Ranges → List PathStep → TextFault → Option Range
 plain_range contents ranges path fault =
-    option_and_then (λ text. option_and_then (range_in_string contents text fault) (ranges.of_value path))
+    option_and_then (λ text. option_and_then (range_in_string contents text fault)
+    (ranges.of_value path))
     (text_at contents path)
 
 -- ---- a document with its text and its index

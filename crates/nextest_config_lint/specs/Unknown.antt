@@ -4,7 +4,7 @@ use Rattle.std.specs.List.{slice_split}
 use Rattle.std.specs.Option.{option_or}
 use Rattle.toml.specs.Data.{Data, Members, table}
 use Rattle.toml_spans.specs.Step.{PathStep}
-use Rattle.nextest_config_lint.specs.Found.{Found, found_at, Meant, the_key, the_word, unknown_key}
+use Rattle.nextest_config_lint.specs.Found.{Found, found_at, Suggestion, the_key, the_word, unknown_key}
 use Rattle.nextest_config_values.specs.NearestWord.{dash, distance, IsNearest, is_same}
 use Rattle.nextest_config_lint.specs.Settings.{a_value, is_key, is_known, names_of, SettingView, Subject}
 use Rattle.nextest_config_lint.specs.declared.finding.Scope.{Scope}
@@ -100,23 +100,24 @@ first_some (first ∷ rest) = option_or first (first_some rest)
 -- what an unknown key may be meant for, beside its nearest word: that word where the name is the
 -- same or one edit away, the key of the same name elsewhere, the nearest word farther off, or a
 -- word that the name is a part of
-abbrev pub meant_beside : List (List ℕ) → List PathStep → List ℕ → Option (List ℕ) → Option Meant
-meant_beside known path name near = first_some
+abbrev pub suggested_beside : List (List ℕ) → List PathStep → List ℕ → Option (List ℕ)
+    → Option Suggestion
+suggested_beside known path name near = first_some
     (option_map the_word (slip_of name near)
     ∷ option_map the_key (scope_of (scopes_at path) name)
     ∷ option_map the_word near
     ∷ option_map the_word (word_with_part known name) ∷ [])
 
 -- what an unknown key of the table at a path may be meant for, with its nearest word
-abbrev pub IsHintFor : List (List ℕ) → List PathStep → List ℕ → Option Meant → Type 0
+abbrev pub IsHintFor : List (List ℕ) → List PathStep → List ℕ → Option Suggestion → Type 0
 IsHintFor known path name hint = (near : Option (List ℕ)) × IsNearest known name near
-    × (hint ≡ meant_beside known path name near)
+    × (hint ≡ suggested_beside known path name near)
 
 -- what is found of a key, by whether it is known: of a known one nothing
 abbrev pub IsKeyFoundFor : Bool → TableKey → Option Found → Type 0
 IsKeyFoundFor true key found = found ≡ None
 IsKeyFoundFor false key found =
-    (hint : Option Meant)
+    (hint : Option Suggestion)
     × IsHintFor key.known key.path key.name hint
     × (found ≡ Some (found_at key.path (unknown_key key.name hint)))
 

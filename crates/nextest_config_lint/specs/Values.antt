@@ -8,14 +8,14 @@ use Rattle.nextest_config.specs.declared.nextest_version.edition.Edition.{Editio
 use Rattle.nextest_config.specs.declared.nextest_version.source.ConfigSourceKind.{ConfigSourceKind}
 use Rattle.nextest_config_lint.specs.Faults.{IsFoundOf}
 use Rattle.nextest_config_lint.specs.Features.{AreNamedFound, array_notes}
-use Rattle.nextest_config_lint.specs.Found.{AreFoundOf, Found, found_at, Tells, TellsSome, unjudged, wrong_text}
+use Rattle.nextest_config_lint.specs.Found.{AreFoundOf, Found, found_at, Reports, ReportsSome, unjudged, wrong_text}
 use Rattle.nextest_config_lint.specs.Settings.{SettingView}
 use Rattle.nextest_config_lint.specs.Subjects.{IsLeftOpen, IsRight, IsWrong, NamesFeatures}
 use Rattle.nextest_config_lint.specs.Texts.{HasNoTextFault, IsTextFault}
 use Rattle.nextest_config_lint.specs.declared.values.ValueFindings.{ValueFindings}
 
--- what comes of what is judged: nothing is wrong; a value names features; something is wrong, or with
--- the syntax of a text; or it is a duration that isn't judged
+-- what comes of what is judged: nothing is wrong; a value names features; something is wrong, or
+-- with the syntax of a text; or it is a duration that isn't judged
 pub data Outcome : Type 0 where
   accepted : Outcome
   names_features : Data → FeatureSetting → Outcome
@@ -82,12 +82,12 @@ AreFeaturesFound edition kind setting = AreFoundBy edition setting (AreFeatures 
 abbrev pub AreNotesFound : Edition → ConfigSourceKind → SettingView → List Found → Type 0
 AreNotesFound edition kind setting = AreFoundBy edition setting (AreNotes kind setting)
 
--- the findings tell what is found by this outcome
-pub record TellsOutcome (kind : ConfigSourceKind) (setting : SettingView) (outcome : Outcome)
+-- the findings report what is found by this outcome
+pub record ReportsOutcome (kind : ConfigSourceKind) (setting : SettingView) (outcome : Outcome)
     (found : ValueFindings) : Type 0 where
-  pub faults : TellsSome (AreFaults setting outcome) found.faults
-  pub features : TellsSome (AreFeatures kind setting outcome) found.features
-  pub notes : Tells found.notes.items (notes_of kind setting outcome)
+  pub faults : ReportsSome (AreFaults setting outcome) found.faults
+  pub features : ReportsSome (AreFeatures kind setting outcome) found.features
+  pub notes : Reports found.notes.items (notes_of kind setting outcome)
 
 -- nothing is found
 pub record IsEmpty (found : ValueFindings) : Type 0 where
@@ -95,10 +95,10 @@ pub record IsEmpty (found : ValueFindings) : Type 0 where
   pub features : found.features.items ≡ []
   pub notes : found.notes.items ≡ []
 
--- the findings tell what is found of what is judged
-abbrev pub TellsValue : Edition → ConfigSourceKind → SettingView → ValueFindings → Type 0
-TellsValue edition kind setting found = (outcome : Outcome) × IsOutcome edition setting outcome
-    × TellsOutcome kind setting outcome found
+-- the findings report what is found of what is judged
+abbrev pub ReportsValue : Edition → ConfigSourceKind → SettingView → ValueFindings → Type 0
+ReportsValue edition kind setting found = (outcome : Outcome) × IsOutcome edition setting outcome
+    × ReportsOutcome kind setting outcome found
 
 -- what a fault comes to
 abbrev pub IsFaultOutcome : SettingView → Fault → Outcome → Type 0
@@ -106,11 +106,11 @@ IsFaultOutcome setting fault outcome =
     (IsLeftOpen setting.subject fault × (outcome ≡ left_open fault))
     ⊎ ((IsLeftOpen setting.subject fault → ⊥) × (outcome ≡ faulty fault))
 
--- the findings tell what is found of this fault
-abbrev pub TellsFault : SettingView → Option Fault → ValueFindings → Type 0
-TellsFault setting told found = (fault : Fault) × (outcome : Outcome) × (told ≡ Some fault)
+-- the findings report what is found of this fault
+abbrev pub ReportsFault : SettingView → Option Fault → ValueFindings → Type 0
+ReportsFault setting seen found = (fault : Fault) × (outcome : Outcome) × (seen ≡ Some fault)
     × IsFaultOutcome setting fault outcome
-    × ((kind : ConfigSourceKind) → TellsOutcome kind setting outcome found)
+    × ((kind : ConfigSourceKind) → ReportsOutcome kind setting outcome found)
 
 -- what a text comes to where it has its shape
 abbrev pub IsTextOutcome : SettingView → Outcome → Type 0
@@ -118,14 +118,14 @@ IsTextOutcome setting accepted = HasNoTextFault setting.subject
 IsTextOutcome setting (miswritten fault) = IsTextFault setting.subject fault
 IsTextOutcome setting outcome = ⊥
 
--- the findings tell what is found of the syntax of a text
-abbrev pub TellsText : SettingView → ValueFindings → Type 0
-TellsText setting found = (outcome : Outcome) × IsTextOutcome setting outcome
-    × ((kind : ConfigSourceKind) → TellsOutcome kind setting outcome found)
+-- the findings report what is found of the syntax of a text
+abbrev pub ReportsText : SettingView → ValueFindings → Type 0
+ReportsText setting found = (outcome : Outcome) × IsTextOutcome setting outcome
+    × ((kind : ConfigSourceKind) → ReportsOutcome kind setting outcome found)
 
--- the findings tell what is found of each
-pub record TellsValues (edition : Edition) (kind : ConfigSourceKind) (settings : List SettingView)
+-- the findings report what is found of each
+pub record ReportsValues (edition : Edition) (kind : ConfigSourceKind) (settings : List SettingView)
     (found : ValueFindings) : Type 0 where
-  pub faults : TellsSome (AreFoundOf (AreFaultsFound edition) settings) found.faults
-  pub features : TellsSome (AreFoundOf (AreFeaturesFound edition kind) settings) found.features
-  pub notes : TellsSome (AreFoundOf (AreNotesFound edition kind) settings) found.notes
+  pub faults : ReportsSome (AreFoundOf (AreFaultsFound edition) settings) found.faults
+  pub features : ReportsSome (AreFoundOf (AreFeaturesFound edition kind) settings) found.features
+  pub notes : ReportsSome (AreFoundOf (AreNotesFound edition kind) settings) found.notes

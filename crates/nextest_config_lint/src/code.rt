@@ -1,8 +1,12 @@
 //! The codes of findings.
 
-ghost use Rattle.nextest_config_lint.specs.Code.{code_reads_back, code_word, codes_in_order};
+ghost use Rattle.std.specs.Prelude.{◌≡◌};
+ghost use Rattle.nextest_config_values.specs.Read.{broken_rule};
+ghost use Rattle.nextest_config_lint.specs.Code.{code_reads_back, code_word, codes_in_order, fault_code, name_code, rule_code, text_code, undefined_code};
 
-use nextest_config_values::read::Word;
+use nextest_config_elements::named::NamedKind;
+use nextest_config_filters::TextFaultCode;
+use nextest_config_values::read::{FaultKind, Rule, Word};
 
 /// What kind of finding it is, for those that look for one. A code never changes its meaning.
 #[derive(Clone, Copy, Debug, PartialEq, Eq)]
@@ -87,6 +91,76 @@ pub enum FindingCode {
     UnjudgedDuration,
     /// Features stand in an array, which is deprecated.
     DeprecatedArray,
+}
+
+/// The code of what is wrong with a text.
+pub(crate) fn code_of_text(code: TextFaultCode) -> FindingCode
+    ensures { result ≡ text_code code }
+{
+    match code {
+        TextFaultCode::FilterSyntax => FindingCode::FilterSyntax,
+        TextFaultCode::UnknownPredicate => FindingCode::UnknownPredicate,
+        TextFaultCode::BannedPredicate => FindingCode::BannedPredicate,
+        TextFaultCode::FilterArgument => FindingCode::FilterArgument,
+        TextFaultCode::PlatformSyntax => FindingCode::PlatformSyntax,
+        TextFaultCode::PlatformWord => FindingCode::PlatformWord,
+    }
+}
+
+/// The code of an undefined name of a kind.
+pub(crate) fn code_of_undefined(kind: NamedKind) -> FindingCode
+    ensures { result ≡ undefined_code kind }
+{
+    match kind {
+        NamedKind::Group => FindingCode::UndefinedGroup,
+        NamedKind::Script(_) => FindingCode::UndefinedScript,
+    }
+}
+
+/// The code of a text that is no name of a kind here.
+pub(crate) fn code_of_name(kind: NamedKind) -> FindingCode
+    ensures { result ≡ name_code kind }
+{
+    match kind {
+        NamedKind::Group => FindingCode::GroupName,
+        NamedKind::Script(_) => FindingCode::ScriptName,
+    }
+}
+
+/// The code of a refusal.
+pub(crate) fn code_of_fault(fault: &FaultKind) -> FindingCode
+    ensures { result ≡ fault_code fault.now }
+{
+    match fault {
+        FaultKind::InvalidType { .. } => FindingCode::InvalidType,
+        FaultKind::UnknownVariant { .. } => FindingCode::UnknownVariant,
+        FaultKind::UnknownField { .. } => FindingCode::UnknownField,
+        FaultKind::MissingField { .. } => FindingCode::MissingField,
+        FaultKind::Custom(rule) => code_of_rule(rule),
+        FaultKind::InvalidValue { .. }
+        | FaultKind::Identifier(_)
+        | FaultKind::ToolName(_)
+        | FaultKind::Memory => FindingCode::InvalidValue,
+    }
+}
+
+// The code of a rule that is broken.
+fn code_of_rule(rule: &Rule) -> FindingCode
+    ensures { result ≡ rule_code (broken_rule rule.now) }
+{
+    match rule {
+        Rule::ArrayForm => FindingCode::ArrayForm,
+        Rule::PreRelease => FindingCode::PreRelease,
+        Rule::BuildMetadata => FindingCode::BuildMetadata,
+        Rule::NotVersion { .. } => FindingCode::NotVersion,
+        Rule::RequiredAboveRecommended { .. } => FindingCode::RequiredAboveRecommended,
+        Rule::JitterWithoutDelay => FindingCode::JitterWithoutDelay,
+        Rule::CountZero => FindingCode::CountZero,
+        Rule::DelayZero => FindingCode::DelayZero,
+        Rule::MaxDelayZero => FindingCode::MaxDelayZero,
+        Rule::MaxDelayBelowDelay => FindingCode::MaxDelayBelowDelay,
+        Rule::Priority { .. } => FindingCode::Priority,
+    }
 }
 
 impl Word for FindingCode {

@@ -3,7 +3,7 @@
 ghost use Rattle.std.specs.Prelude.{◌≡◌, ◌↔◌, IsTrue, option_map};
 ghost use Rattle.toml.specs.View.{view};
 ghost use Rattle.nextest_config_elements.specs.Fields.{fields_in, fields_view, parts_of};
-ghost use Rattle.nextest_config_lint.specs.Conversion.{field_along, field_named, IsConvertedAt, IsConvertedBy, IsIntegerText, is_boolean_text, is_false_text, is_true_text, MayBecome, MayBecomeBoolean, MayBecomeNumber, MayBecomeText};
+ghost use Rattle.nextest_config_lint.specs.Conversion.{field_along, field_named, IsConvertedAt, IsConvertedBy, IsIntegerText, is_boolean_text, is_one_of, MayBecome, MayBecomeBoolean, MayBecomeNumber, MayBecomeText};
 ghost use Rattle.nextest_config_lint.specs.Settings.{seen_field};
 ghost use Rattle.nextest_config_values.specs.Read.{words_of};
 
@@ -117,23 +117,15 @@ fn is_integer_text(text: &str) -> bool
 fn is_boolean_text(text: &str) -> bool
     ensures { result ≡ is_boolean_text text.now }
 {
-    is_true_text(text) | is_false_text(text)
+    is_one_of(text, "true", "yes", "on", "1") | is_one_of(text, "false", "no", "off", "0")
 }
 
-fn is_true_text(text: &str) -> bool
-    ensures { result ≡ is_true_text text.now }
+// Whether the text is one of four words, whatever the case of its letters.
+fn is_one_of(text: &str, first: &str, second: &str, third: &str, last: &str) -> bool
+    ensures { result ≡ is_one_of first.now second.now third.now last.now text.now }
 {
-    text.eq_ignore_ascii_case("true")
-        | text.eq_ignore_ascii_case("yes")
-        | text.eq_ignore_ascii_case("on")
-        | text.eq_ignore_ascii_case("1")
-}
-
-fn is_false_text(text: &str) -> bool
-    ensures { result ≡ is_false_text text.now }
-{
-    text.eq_ignore_ascii_case("false")
-        | text.eq_ignore_ascii_case("no")
-        | text.eq_ignore_ascii_case("off")
-        | text.eq_ignore_ascii_case("0")
+    text.eq_ignore_ascii_case(first)
+        | text.eq_ignore_ascii_case(second)
+        | text.eq_ignore_ascii_case(third)
+        | text.eq_ignore_ascii_case(last)
 }

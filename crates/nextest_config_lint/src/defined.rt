@@ -4,9 +4,10 @@
 ghost use Rattle.std.specs.Prelude.{◌≡◌, ◌↔◌, ◌∷◌, [], ℕ, Contains, IfOk, IsSome, IsTrue, List, MatchOption, None, OnOk, map, option_map, string_bytes};
 ghost use Rattle.toml.specs.View.{table_view};
 ghost use Rattle.nextest_config_values.specs.Identifier.{IsIdentifier, identifier_fault};
-ghost use Rattle.nextest_config_lint.specs.Defined.{AddsNames, AreDocuments, AreNamesOf, ComesBackAt, DefinesNamed, DefinesProfile, HasName, HasNamed, HasProfile, IsDefinedBy, IsFeatureMissing, IsNameIn, IsOfTool, KeepsName, ListFile, SomeOf, feature_of, file_of, file_with, table_below, table_of};
+ghost use Rattle.nextest_config_lint.specs.Defined.{AddsNames, AreDocuments, AreNamesOf, ComesBackAt, DefinesNamed, DefinesProfile, HasName, HasNamed, IsDefinedBy, IsFeatureMissing, IsNameIn, KeepsName, ListFile, SomeOf, feature_of, file_of, file_with, table_below, table_of};
 ghost use Rattle.nextest_config_lint.specs.Settings.{names_of};
-ghost use Rattle.nextest_config_lint.specs.References.{IsUndefined, IsUndefinedProfile};
+ghost use Rattle.nextest_config_lint.specs.References.Names.{IsUndefined};
+ghost use Rattle.nextest_config_lint.specs.References.Profiles.{IsUndefinedProfile};
 
 use crate::list_features::ListFeatures;
 use crate::ring_profiles::find_ring_profiles;
@@ -146,7 +147,7 @@ pub(crate) fn names_of_file(
         AreNamesOf (HasNamed kind (file_of file.now)) (map string_bytes names.keys)) }
 {
     let mut names = BTreeSet::new(alloc);
-    add_named(alloc, kind, file, &mut names)?;
+    add_names(alloc, NameKind::Named(kind), file, &mut names)?;
     Ok(names)
 }
 
@@ -189,7 +190,7 @@ fn are_documents(files: &[ListedFile]) -> bool
     true
 }
 
-// Adds the names of a kind that a file has.
+// Adds the names of a kind that a file has, as they are kept.
 fn add_names(
     alloc: Global,
     kind: NameKind,
@@ -200,31 +201,24 @@ fn add_names(
         (map string_bytes names.old.keys) (map string_bytes names.new.keys)) }
 {
     match kind {
-        NameKind::Named(kind) => add_named(alloc, kind, file, names),
-        NameKind::Profile => add_profiles(alloc, file, names),
-        NameKind::Tool => add_tool(alloc, file, names),
-    }
-}
-
-// Adds the names of a kind that a file defines, as they are kept.
-fn add_named(
-    alloc: Global,
-    kind: NamedKind,
-    file: &ListedFile,
-    names: &mut BTreeSet<String>,
-) -> Result<(), AllocError>
-    ensures { OnOk result (AddsNames (HasNamed kind (file_of file.now))
-        (map string_bytes names.old.keys) (map string_bytes names.new.keys)) }
-{
-    match kind {
-        NamedKind::Group => add_kept(alloc, file.table(GROUPS_KEY), names),
-        NamedKind::Script(ScriptKind::Setup) => {
-            add_kept(alloc, file.table_below(SCRIPTS_KEY, SETUP_KEY), names)?;
-            add_kept(alloc, file.table(SCRIPT_KEY), names)
-        }
-        NamedKind::Script(ScriptKind::Wrapper) => {
-            add_kept(alloc, file.table_below(SCRIPTS_KEY, WRAPPER_KEY), names)
-        }
+        NameKind::Named(kind) => match kind {
+            NamedKind::Group => add_kept(alloc, file.table(GROUPS_KEY), names),
+            NamedKind::Script(ScriptKind::Setup) => {
+                add_kept(alloc, file.table_below(SCRIPTS_KEY, SETUP_KEY), names)?;
+                add_kept(alloc, file.table(SCRIPT_KEY), names)
+            }
+            NamedKind::Script(ScriptKind::Wrapper) => {
+                add_kept(alloc, file.table_below(SCRIPTS_KEY, WRAPPER_KEY), names)
+            }
+        },
+        NameKind::Profile => match file.table(PROFILES_KEY) {
+            Some(profiles) => add_keys(alloc, profiles, names),
+            None => Ok(()),
+        },
+        NameKind::Tool => match file.source {
+            ConfigSourceKind::Tool(tool) => add_name(alloc, tool.as_str(), names),
+            ConfigSourceKind::ExplicitRepository | ConfigSourceKind::DiscoveredRepository => Ok(()),
+        },
     }
 }
 
@@ -254,24 +248,6 @@ fn add_kept_of(alloc: Global, table: &Table, names: &mut BTreeSet<String>) -> Re
         add_kept_key(alloc, key.as_str(), names)?;
     }
     Ok(())
-}
-
-// Adds the profiles of a file.
-fn add_profiles(
-    alloc: Global,
-    file: &ListedFile,
-    names: &mut BTreeSet<String>,
-) -> Result<(), AllocError>
-    ensures { OnOk result (AddsNames (HasProfile (file_of file.now))
-        (map string_bytes names.old.keys) (map string_bytes names.new.keys)) }
-{
-    match file.table(PROFILES_KEY) {
-        Some(profiles) => {
-            add_keys(alloc, profiles, names)?;
-            Ok(())
-        }
-        None => Ok(()),
-    }
 }
 
 // Adds the keys of a table. They come in order, so that a set is made of them faster than it grows.
@@ -304,24 +280,6 @@ fn copies_of_keys(alloc: Global, table: &Table) -> Result<Vec<String>, AllocErro
         copies.push(String::from_str(alloc, key.as_str())?)?;
     }
     Ok(copies)
-}
-
-// Adds the tool whose file this is, if it is one's.
-fn add_tool(
-    alloc: Global,
-    file: &ListedFile,
-    names: &mut BTreeSet<String>,
-) -> Result<(), AllocError>
-    ensures { OnOk result (AddsNames (IsOfTool (file_of file.now))
-        (map string_bytes names.old.keys) (map string_bytes names.new.keys)) }
-{
-    match file.source {
-        ConfigSourceKind::Tool(tool) => {
-            add_name(alloc, tool.as_str(), names)?;
-            Ok(())
-        }
-        ConfigSourceKind::ExplicitRepository | ConfigSourceKind::DiscoveredRepository => Ok(()),
-    }
 }
 
 // Adds what the key is kept as, if it is an identifier.

@@ -4,11 +4,12 @@ ghost use Rattle.std.specs.Prelude.{◌≡◌, ◌++◌, [], IfOk, List};
 ghost use Rattle.toml.specs.View.{table_view};
 ghost use Rattle.nextest_config_lint.specs.Defined.{IsDefinedBy, ListFile};
 ghost use Rattle.nextest_config_lint.specs.Document.{AreFindings, HasFound};
-ghost use Rattle.nextest_config_lint.specs.Found.{Found, Tells};
+ghost use Rattle.nextest_config_lint.specs.Found.{Found, Reports};
 
 use crate::defined::{Defined, ListedFile, names_of_file};
 use crate::finding::Finding;
-use crate::references::{JudgedFile, add_reference};
+use crate::references::add_reference;
+use crate::references::judged_file::JudgedFile;
 use crate::settings::Setting;
 use crate::traversal::{Visitor, visit_document};
 use crate::unknown::{add_beside, add_keys_in};
@@ -35,7 +36,7 @@ pub fn findings(
     ensures { IfOk result (λ findings. (files : List ListFile) → IsDefinedBy files defined.now
         → (all_found : List Found)
         × AreFindings edition source.now files position (table_view document.now) all_found
-        × Tells findings.items all_found) }
+        × Reports findings.items all_found) }
 {
     let listed = ListedFile {
         source,

@@ -10,7 +10,7 @@ ghost use Rattle.nextest_config_lint.specs.Faults.{IsFoundOf, IsUnjudged, text_a
 ghost use Rattle.nextest_config_lint.specs.Found.{Found, found_at, found_of, unjudged};
 ghost use Rattle.nextest_config_lint.specs.Settings.{setting_view, subject_view};
 ghost use Rattle.nextest_config_lint.specs.Subjects.{IsLeftOpen};
-ghost use Rattle.nextest_config_lint.specs.Values.{TellsFault};
+ghost use Rattle.nextest_config_lint.specs.Values.{ReportsFault};
 
 use crate::finding::{Finding, FindingKind};
 use crate::hints::hint_of;
@@ -29,7 +29,7 @@ pub(crate) fn find_of_fault(
     setting: &Setting,
     fault: ValueFault,
 ) -> Result<ValueFindings, AllocError>
-    ensures { IfOk result (TellsFault (setting_view setting.now) (fault_of fault)) }
+    ensures { IfOk result (ReportsFault (setting_view setting.now) (fault_of fault)) }
 {
     if fault.is_memory() {
         return Err(AllocError);
@@ -46,8 +46,8 @@ pub(crate) fn find_of_fault(
 
 // The note on a duration that isn't judged.
 fn unjudged_at(alloc: Global, setting: &Setting, fault: ValueFault) -> Result<Finding, AllocError>
-    ensures { IfOk result (λ finding. IfSome (fault_of fault) (λ told. found_of finding
-        ≡ Some (found_at ((setting_view setting.now).path ++ told.steps) unjudged))) }
+    ensures { IfOk result (λ finding. IfSome (fault_of fault) (λ seen. found_of finding
+        ≡ Some (found_at ((setting_view setting.now).path ++ seen.steps) unjudged))) }
 {
     let ValueFault {
         mut steps,
@@ -61,8 +61,8 @@ fn unjudged_at(alloc: Global, setting: &Setting, fault: ValueFault) -> Result<Fi
 
 // The finding of a value that is refused.
 fn refused_at(alloc: Global, setting: &Setting, fault: ValueFault) -> Result<Finding, AllocError>
-    ensures { IfOk result (λ finding. IfSome (fault_of fault) (λ told. (found : Found)
-        × IsFoundOf (setting_view setting.now) told found × (found_of finding ≡ Some found))) }
+    ensures { IfOk result (λ finding. IfSome (fault_of fault) (λ seen. (found : Found)
+        × IsFoundOf (setting_view setting.now) seen found × (found_of finding ≡ Some found))) }
 {
     let severity = severity_of(setting, &fault);
     let hint = hint_of(alloc, setting, &fault)?;
@@ -77,10 +77,10 @@ fn refused_at(alloc: Global, setting: &Setting, fault: ValueFault) -> Result<Fin
     Ok(Finding { path, kind })
 }
 
-// The cause, as it is told at the path. A path is written only for what names one.
+// The cause, as it is reported at the path. A path is written only for what names one.
 fn kind_at(alloc: Global, path: &[Step], cause: FaultCause) -> Result<FaultKind, AllocError>
-    ensures { IfOk result (λ kind. IfSome (cause_of cause) (λ told.
-        reason_of kind ≡ Some (reason_at (printed_path (map step_of path.now)) told))) }
+    ensures { IfOk result (λ kind. IfSome (cause_of cause) (λ seen.
+        reason_of kind ≡ Some (reason_at (printed_path (map step_of path.now)) seen))) }
 {
     match cause {
         FaultCause::Kind(kind) => Ok(kind),
@@ -88,10 +88,10 @@ fn kind_at(alloc: Global, path: &[Step], cause: FaultCause) -> Result<FaultKind,
     }
 }
 
-// The cause, as it is told at the path, which is written.
+// The cause, as it is reported at the path, which is written.
 fn written_kind(alloc: Global, path: &[Step], cause: FaultCause) -> Result<FaultKind, AllocError>
-    ensures { IfOk result (λ kind. IfSome (cause_of cause) (λ told.
-        reason_of kind ≡ Some (reason_at (printed_path (map step_of path.now)) told))) }
+    ensures { IfOk result (λ kind. IfSome (cause_of cause) (λ seen.
+        reason_of kind ≡ Some (reason_at (printed_path (map step_of path.now)) seen))) }
 {
     let at = PathText(path).to_string(alloc)?;
     let kind = cause.kind_at(alloc, at.as_str());
@@ -103,8 +103,8 @@ fn written_kind(alloc: Global, path: &[Step], cause: FaultCause) -> Result<Fault
 
 // Whether what is wrong is a duration of a form that isn't judged here.
 fn is_left_open(alloc: Global, subject: Subject, fault: &ValueFault) -> Result<bool, AllocError>
-    ensures { IfOk result (λ answer. IfSome (fault_of fault.now) (λ told.
-        IsTrue answer ↔ IsLeftOpen (subject_view subject.entry) told)) }
+    ensures { IfOk result (λ answer. IfSome (fault_of fault.now) (λ seen.
+        IsTrue answer ↔ IsLeftOpen (subject_view subject.entry) seen)) }
 {
     match subject {
         Subject::Value { value, .. } => is_unjudged(alloc, value, fault),
@@ -115,8 +115,8 @@ fn is_left_open(alloc: Global, subject: Subject, fault: &ValueFault) -> Result<b
 /// Whether what is wrong with a value is a text that isn't taken for a duration, and may be one for
 /// nextest.
 pub fn is_unjudged(alloc: Global, value: &Value, fault: &ValueFault) -> Result<bool, AllocError>
-    ensures { IfOk result (λ answer. IfSome (fault_of fault.now) (λ told.
-        IsTrue answer ↔ IsUnjudged (view value.now) told)) }
+    ensures { IfOk result (λ answer. IfSome (fault_of fault.now) (λ seen.
+        IsTrue answer ↔ IsUnjudged (view value.now) seen)) }
 {
     match &fault.cause {
         FaultCause::NoDuration { .. } => match text_along(value, fault.steps.as_slice()) {

@@ -7,9 +7,9 @@ ghost use Rattle.nextest_config_values.specs.Read.{comma_list};
 ghost use Rattle.toml_spans.specs.Step.{PathStep, step_of};
 ghost use Rattle.nextest_config.specs.NextestVersion.{feature_setting_of, features_of};
 ghost use Rattle.nextest_config_lint.specs.Features.{AreToolsFound, array_found, feature_text, features_text, IsFirstAt, IsNameFound, IsStepTo};
-ghost use Rattle.nextest_config_lint.specs.Found.{AddsOne, AreFoundIn, Tells, TellsSome};
+ghost use Rattle.nextest_config_lint.specs.Found.{AddsOne, AreFoundIn, Reports, ReportsSome};
 ghost use Rattle.nextest_config_lint.specs.Settings.{setting_view};
-ghost use Rattle.nextest_config_lint.specs.Values.{names_features, TellsOutcome};
+ghost use Rattle.nextest_config_lint.specs.Values.{names_features, ReportsOutcome};
 
 use crate::finding::{Finding, FindingKind};
 use crate::hints::nearest_hint;
@@ -35,7 +35,7 @@ pub(crate) fn find_of_features(
     value: &Value,
     named: ExperimentalDeserialize,
 ) -> Result<ValueFindings, AllocError>
-    ensures { IfOk result (TellsOutcome source.now (setting_view setting.now)
+    ensures { IfOk result (ReportsOutcome source.now (setting_view setting.now)
         (names_features (view value.now) (feature_setting_of named))) }
 {
     let mut findings = ValueFindings::new(alloc);
@@ -58,7 +58,7 @@ fn tool_features(
     named: &ExperimentalDeserialize,
 ) -> Result<Vec<Finding>, AllocError>
     ensures { IfOk result
-        (TellsSome (AreToolsFound (setting_view setting.now).path (features_of named.now))) }
+        (ReportsSome (AreToolsFound (setting_view setting.now).path (features_of named.now))) }
 {
     let mut findings = Vec::new(alloc);
     if named.is_empty() {
@@ -78,7 +78,7 @@ fn unknown_features(
     value: &Value,
     unknown: &BTreeSet<String>,
 ) -> Result<Vec<Finding>, AllocError>
-    ensures { IfOk result (TellsSome (AreFoundIn
+    ensures { IfOk result (ReportsSome (AreFoundIn
         (IsNameFound (setting_view setting.now).path (view value.now))
         (map string_bytes unknown.now.keys))) }
 {
@@ -172,7 +172,7 @@ fn array_note(
     setting: &Setting,
     named: &ExperimentalDeserialize,
 ) -> Result<Vec<Finding>, AllocError>
-    ensures { IfOk result (λ notes. Tells notes.items
+    ensures { IfOk result (λ notes. Reports notes.items
         (array_found (setting_view setting.now).path (feature_setting_of named.now))) }
 {
     let mut notes = Vec::new(alloc);

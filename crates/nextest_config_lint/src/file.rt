@@ -9,7 +9,7 @@ ghost use Rattle.toml_spans.specs.Index.{IsIndexOf, IsSpanOf, ranges_in};
 ghost use Rattle.toml_spans.specs.Step.{key, step_of};
 ghost use Rattle.nextest_config_values.specs.Read.{broken_rule, Reason, reason_of};
 ghost use Rattle.nextest_config_lint.specs.Defined.{IsDefinedBy, ListFile};
-ghost use Rattle.nextest_config_lint.specs.File.{AreLocated, AreLocatedIn, AreSorted, HasRange, IsAlone, IsDocument, IsIn, IsLocated, IsReadOf, IsToldBy, is_definition, is_key_refused, is_of_key, key_in, located_view, range_at, range_for, range_of, reason_key, rule_key, told_range};
+ghost use Rattle.nextest_config_lint.specs.File.{AreLocated, AreLocatedIn, AreSorted, HasRange, IsAlone, IsDocument, IsIn, IsLocated, IsReadOf, IsReportedBy, is_definition, is_key_refused, is_of_key, key_in, located_view, range_at, range_for, range_of, reason_key, rule_key, reported_range};
 ghost use Rattle.nextest_config_lint.specs.Found.{Found, found_at, FoundKind, found_of, kind_view, not_utf8};
 ghost use Rattle.nextest_config_lint.specs.TextRange.{IsIndexed};
 
@@ -139,7 +139,7 @@ fn not_utf8(alloc: Global, front: &[u8]) -> Result<Vec<LocatedFinding>, AllocErr
 fn not_toml(alloc: Global, text: &[u8], error: &Error) -> Result<Vec<LocatedFinding>, AllocError>
     requires { IsWithin text.now error.now }
     ensures memory { OnOk result (¬ IsMemory error.now) }
-    ensures told { IfOk result (λ located. IsToldBy text.now error.now located.items) }
+    ensures reported { IfOk result (λ located. IsReportedBy text.now error.now located.items) }
 {
     let Some(range) = error.span() else {
         return Err(AllocError);
@@ -252,11 +252,12 @@ fn span_of(alloc: Global, file: IndexedDocument<'_>, finding: &Finding) -> Resul
     requires file { IsIndexed file }
     requires range { HasRange file.index.now finding.now }
     ensures { IfOk result (λ span. (found : Found) → found_of finding.now ≡ Some found
-        → IsSpanOf file.entry.text.now (range_for file.entry.text.now (ranges_in file.entry.index.now) found)
+        → IsSpanOf file.entry.text.now (range_for file.entry.text.now
+        (ranges_in file.entry.index.now) found)
         (Some span)) }
 {
-    match told_span(file, finding) {
-        Some(told) => Ok(told),
+    match reported_span(file, finding) {
+        Some(reported) => Ok(reported),
         None => match range_in(alloc, file.index, finding)? {
             Some(span) => Ok(span),
             None => unreachable!(),
@@ -264,11 +265,12 @@ fn span_of(alloc: Global, file: IndexedDocument<'_>, finding: &Finding) -> Resul
     }
 }
 
-// The range of the bytes of a text that a finding tells.
-fn told_span(file: IndexedDocument<'_>, finding: &Finding) -> Option<Span>
+// The range of the bytes of a text that a finding reports.
+fn reported_span(file: IndexedDocument<'_>, finding: &Finding) -> Option<Span>
     requires { IsIndexed file }
     ensures { (found : Found) → found_of finding.now ≡ Some found → IsSpanOf file.entry.text.now
-        (told_range file.entry.text.now (ranges_in file.entry.index.now) found.path found.kind) result }
+        (reported_range file.entry.text.now (ranges_in file.entry.index.now) found.path found.kind)
+        result }
 {
     match &finding.kind {
         FindingKind::Text(fault) => plain_span(file, finding.path.as_slice(), fault),
@@ -368,8 +370,8 @@ fn is_definition(path: &[Step]) -> bool
 
 // The key of a table at which what is found of the table stands.
 fn key_in(kind: &FindingKind) -> Option<&str>
-    ensures { (told : FoundKind) → kind_view kind.now ≡ Some told
-        → option_map (λ name. name.now) result ≡ key_in told }
+    ensures { (reported : FoundKind) → kind_view kind.now ≡ Some reported
+        → option_map (λ name. name.now) result ≡ key_in reported }
 {
     match kind {
         FindingKind::UnknownKey { key, .. } => Some(key.as_str()),

@@ -2,17 +2,16 @@
 
 ghost use Rattle.std.specs.Prelude.{◌≡◌, Some};
 ghost use Rattle.std.specs.Fmt.{WritesOnOk};
-ghost use Rattle.nextest_config_lint.specs.Code.{name_code, rule_code, text_code, told_code, undefined_code};
+ghost use Rattle.nextest_config_lint.specs.Code.{reported_code};
 ghost use Rattle.nextest_config_lint.specs.Found.{kind_view};
-ghost use Rattle.nextest_config_lint.specs.Finding.{fault_code, finding_kind_text, finding_severity, finding_text, hint_text, scope_text, mistake_text, name_text, plain_text};
-ghost use Rattle.nextest_config_values.specs.Read.{broken_rule};
+ghost use Rattle.nextest_config_lint.specs.Finding.{finding_kind_text, finding_severity, finding_text, hint_text, scope_text, mistake_text, name_text};
 
-use crate::code::FindingCode;
+use crate::code::{FindingCode, code_of_fault, code_of_name, code_of_text, code_of_undefined};
 use crate::list_features::feature_of;
 use nextest_config_elements::named::{NamedKind, ScriptKind};
-use nextest_config_filters::{TextFault, TextFaultCode};
+use nextest_config_filters::TextFault;
 use nextest_config_values::identifier::InvalidIdentifier;
-use nextest_config_values::read::{FaultKind, QuotedText, QuotedTexts, Rule};
+use nextest_config_values::read::{FaultKind, QuotedText, QuotedTexts};
 use std::collections::BTreeSet;
 use std::fmt::{self, Display};
 use toml_spans::{PathText, Step};
@@ -164,22 +163,15 @@ impl Finding {
         ensures { result ≡ finding_severity self.now.kind }
     {
         match &self.kind {
-            FindingKind::Fault {
-                fault,
-                severity,
-                ..
-            } if !fault.is_memory() => *severity,
-            FindingKind::Fault { .. }
-            | FindingKind::NoName {
+            FindingKind::Fault { fault, .. } if fault.is_memory() => FindingSeverity::Error,
+            FindingKind::Fault { severity, .. } => *severity,
+            FindingKind::NoName {
                 error: InvalidIdentifier::Memory,
                 ..
             }
             | FindingKind::ToolFeatures { .. }
             | FindingKind::NotUtf8
             | FindingKind::NotToml { .. } => FindingSeverity::Error,
-            FindingKind::UnjudgedDuration | FindingKind::DeprecatedArray { .. } => {
-                FindingSeverity::Note
-            }
             FindingKind::Text(_)
             | FindingKind::UnknownFeature { .. }
             | FindingKind::UnknownKey { .. }
@@ -198,12 +190,15 @@ impl Finding {
             | FindingKind::NameOfTool(_)
             | FindingKind::SetupScriptToo { .. }
             | FindingKind::FeatureNotEnabled(_) => FindingSeverity::Warning,
+            FindingKind::UnjudgedDuration | FindingKind::DeprecatedArray { .. } => {
+                FindingSeverity::Note
+            }
         }
     }
 
     /// What kind of finding it is.
     pub fn code(&self) -> FindingCode
-        ensures { result ≡ told_code (kind_view self.now.kind) }
+        ensures { result ≡ reported_code (kind_view self.now.kind) }
     {
         match &self.kind {
             FindingKind::Fault { fault, .. } => code_of_fault(fault),
@@ -235,76 +230,6 @@ impl Finding {
             FindingKind::NotUtf8 => FindingCode::NotUtf8,
             FindingKind::NotToml { .. } => FindingCode::NotToml,
         }
-    }
-}
-
-// The code of what is wrong with a text.
-fn code_of_text(code: TextFaultCode) -> FindingCode
-    ensures { result ≡ text_code code }
-{
-    match code {
-        TextFaultCode::FilterSyntax => FindingCode::FilterSyntax,
-        TextFaultCode::UnknownPredicate => FindingCode::UnknownPredicate,
-        TextFaultCode::BannedPredicate => FindingCode::BannedPredicate,
-        TextFaultCode::FilterArgument => FindingCode::FilterArgument,
-        TextFaultCode::PlatformSyntax => FindingCode::PlatformSyntax,
-        TextFaultCode::PlatformWord => FindingCode::PlatformWord,
-    }
-}
-
-// The code of an undefined name of a kind.
-fn code_of_undefined(kind: NamedKind) -> FindingCode
-    ensures { result ≡ undefined_code kind }
-{
-    match kind {
-        NamedKind::Group => FindingCode::UndefinedGroup,
-        NamedKind::Script(_) => FindingCode::UndefinedScript,
-    }
-}
-
-// The code of a text that is no name of a kind here.
-fn code_of_name(kind: NamedKind) -> FindingCode
-    ensures { result ≡ name_code kind }
-{
-    match kind {
-        NamedKind::Group => FindingCode::GroupName,
-        NamedKind::Script(_) => FindingCode::ScriptName,
-    }
-}
-
-// The code of a refusal.
-fn code_of_fault(fault: &FaultKind) -> FindingCode
-    ensures { result ≡ fault_code fault.now }
-{
-    match fault {
-        FaultKind::InvalidType { .. } => FindingCode::InvalidType,
-        FaultKind::UnknownVariant { .. } => FindingCode::UnknownVariant,
-        FaultKind::UnknownField { .. } => FindingCode::UnknownField,
-        FaultKind::MissingField { .. } => FindingCode::MissingField,
-        FaultKind::Custom(rule) => code_of_rule(rule),
-        FaultKind::InvalidValue { .. }
-        | FaultKind::Identifier(_)
-        | FaultKind::ToolName(_)
-        | FaultKind::Memory => FindingCode::InvalidValue,
-    }
-}
-
-// The code of a rule that is broken.
-fn code_of_rule(rule: &Rule) -> FindingCode
-    ensures { result ≡ rule_code (broken_rule rule.now) }
-{
-    match rule {
-        Rule::PreRelease => FindingCode::PreRelease,
-        Rule::BuildMetadata => FindingCode::BuildMetadata,
-        Rule::NotVersion { .. } => FindingCode::NotVersion,
-        Rule::RequiredAboveRecommended { .. } => FindingCode::RequiredAboveRecommended,
-        Rule::ArrayForm => FindingCode::ArrayForm,
-        Rule::JitterWithoutDelay => FindingCode::JitterWithoutDelay,
-        Rule::CountZero => FindingCode::CountZero,
-        Rule::DelayZero => FindingCode::DelayZero,
-        Rule::MaxDelayZero => FindingCode::MaxDelayZero,
-        Rule::MaxDelayBelowDelay => FindingCode::MaxDelayBelowDelay,
-        Rule::Priority { .. } => FindingCode::Priority,
     }
 }
 
@@ -346,38 +271,6 @@ impl fmt::Display for FindingKind {
                 f.write_str(message.as_str())?;
                 write_mistake(f, mistake)
             }
-            FindingKind::ToolFeatures { .. }
-            | FindingKind::DefaultInherits
-            | FindingKind::InheritsItself { .. }
-            | FindingKind::OverrideOfAll
-            | FindingKind::ScriptOfAll
-            | FindingKind::DefaultFilterBeside
-            | FindingKind::DefaultFilterAlone
-            | FindingKind::ReservedProfile
-            | FindingKind::OtherScript { .. }
-            | FindingKind::NoName { .. }
-            | FindingKind::OutsideTool { .. }
-            | FindingKind::NameOfTool(_)
-            | FindingKind::SetupScriptToo { .. }
-            | FindingKind::FeatureNotEnabled(_)
-            | FindingKind::UnjudgedDuration
-            | FindingKind::DeprecatedArray { .. }
-            | FindingKind::NotUtf8 => self.write_plain(f),
-        }
-    }
-}
-
-impl FindingKind {
-    // What is found, where that is never told with what may be meant; else nothing.
-    fn write_plain<W: fmt::Write>(&self, f: &mut fmt::Formatter<W>) -> fmt::Result
-        ensures { WritesOnOk W.write_str_gives f.old result (plain_text self.now) f.new }
-    {
-        match self {
-            FindingKind::ToolFeatures { features } => write!(
-                f,
-                "experimental features in a tool configuration: {}",
-                QuotedTexts(features)
-            ),
             FindingKind::DefaultInherits => f.write_str("the profile \"default\" can't inherit"),
             FindingKind::InheritsItself { profile } => write!(
                 f,
@@ -399,6 +292,14 @@ impl FindingKind {
             FindingKind::ReservedProfile => {
                 f.write_str("profile names that begin with \"default-\" are reserved")
             }
+            FindingKind::OtherScript { script, name } => {
+                write!(
+                    f,
+                    "{} is a {}",
+                    QuotedText(name.as_str()),
+                    script.as_words()
+                )
+            }
             FindingKind::NoName { error, .. } => error.fmt(f),
             FindingKind::OutsideTool { kind, mark } => write!(
                 f,
@@ -409,14 +310,6 @@ impl FindingKind {
             FindingKind::NameOfTool(kind) => {
                 write!(f, "only a tool's {} begin with \"@\"", kind.as_plural())
             }
-            FindingKind::OtherScript { script, name } => {
-                write!(
-                    f,
-                    "{} is a {}",
-                    QuotedText(name.as_str()),
-                    script.as_words()
-                )
-            }
             FindingKind::SetupScriptToo { name } => {
                 write!(f, "{} is a setup script, too", QuotedText(name.as_str()))
             }
@@ -426,6 +319,11 @@ impl FindingKind {
                 script.as_words(),
                 QuotedText(feature_of(*script).as_word())
             ),
+            FindingKind::ToolFeatures { features } => write!(
+                f,
+                "experimental features in a tool configuration: {}",
+                QuotedTexts(features)
+            ),
             FindingKind::UnjudgedDuration => f.write_str(
                 "not judged here: a duration other than whole numbers, each with a unit",
             ),
@@ -433,7 +331,6 @@ impl FindingKind {
                 write!(f, "the array form is deprecated, use a table: {table}")
             }
             FindingKind::NotUtf8 => f.write_str("not UTF-8"),
-            _ => Ok(()),
         }
     }
 }

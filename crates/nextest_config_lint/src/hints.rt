@@ -5,8 +5,8 @@ ghost use Rattle.toml.specs.Data.{as_integer, as_str, as_table};
 ghost use Rattle.toml.specs.View.{view};
 ghost use Rattle.nextest_config_values.specs.Read.{cause_of, fault_of, words_of};
 ghost use Rattle.nextest_config_elements.specs.Fields.{field_words, fields_view};
-ghost use Rattle.nextest_config_lint.specs.Found.{IsNearestMeant, meant_of, the_word};
-ghost use Rattle.nextest_config_lint.specs.Hints.{IsFaultHint, IsHintAt, IsLimitHint, IsValueHint, limit_of_count, tables_meant, unknown_word_in};
+ghost use Rattle.nextest_config_lint.specs.Found.{IsNearestSuggestion, suggestion_of, Suggests, the_word};
+ghost use Rattle.nextest_config_lint.specs.Hints.{IsFaultHint, IsHintAt, IsLimitHint, IsValueHint, limit_of_count, suggested_tables, unknown_word_in};
 ghost use Rattle.nextest_config_lint.specs.Settings.{setting_view};
 
 mod durations;
@@ -29,8 +29,8 @@ pub(crate) fn hint_of(
     setting: &Setting,
     fault: &ValueFault,
 ) -> Result<Option<Hint>, AllocError>
-    ensures { IfOk result (λ hint. IfSome (fault_of fault.now) (λ told.
-        IsFaultHint (setting_view setting.now) told (option_map meant_of hint))) }
+    ensures { IfOk result (λ hint. IfSome (fault_of fault.now) (λ seen.
+        IsFaultHint (setting_view setting.now) seen (option_map suggestion_of hint))) }
 {
     match setting.subject {
         Subject::Value { shape, value, .. } => {
@@ -49,9 +49,10 @@ fn hint_of_value(
     value: &Value,
     cause: &FaultCause,
 ) -> Result<Option<Hint>, AllocError>
-    ensures { IfOk result (λ hint. IfSome (cause_of cause.now) (λ told.
-        IsValueHint (unknown_word_in told) (setting_view setting.now).path shape (view value.now)
-        (option_map meant_of hint))) }
+    ensures { IfOk result (λ hint. IfSome (cause_of cause.now) (λ seen.
+        IsValueHint (unknown_word_in seen) (setting_view setting.now).path shape
+        (view value.now)
+        (option_map suggestion_of hint))) }
 {
     match unknown_word_in(cause) {
         Some((name, known)) => nearest_hint(alloc, name, known),
@@ -61,8 +62,8 @@ fn hint_of_value(
 
 // The key that an unknown one may be meant for.
 fn hint_among(alloc: Global, name: &str, known: &[Field]) -> Result<Option<Hint>, AllocError>
-    ensures { IfOk result (λ hint. IsNearestMeant (field_words (fields_view known.now)) name.now
-        (option_map meant_of hint)) }
+    ensures { IfOk result (Suggests (IsNearestSuggestion (field_words (fields_view known.now))
+        name.now)) }
 {
     let words = keys_of(alloc, known)?;
     nearest_hint(alloc, name, words.as_slice())
@@ -70,9 +71,9 @@ fn hint_among(alloc: Global, name: &str, known: &[Field]) -> Result<Option<Hint>
 
 // The word that is refused as unknown, and the known ones.
 fn unknown_word_in(cause: &FaultCause) -> Option<(&str, &'static [&'static str])>
-    ensures { IfSome (cause_of cause.now) (λ told.
+    ensures { IfSome (cause_of cause.now) (λ seen.
         option_map (λ unknown. (unknown.0.now, words_of unknown.1.now)) result
-        ≡ unknown_word_in told) }
+        ≡ unknown_word_in seen) }
 {
     match cause {
         FaultCause::Kind(FaultKind::UnknownVariant { found, expected }) => {
@@ -89,8 +90,8 @@ fn hint_at(
     shape: Shape,
     value: &Value,
 ) -> Result<Option<Hint>, AllocError>
-    ensures { IfOk result (λ hint. IsHintAt (setting_view setting.now).path shape
-        (view value.now) (option_map meant_of hint)) }
+    ensures { IfOk result (Suggests (IsHintAt (setting_view setting.now).path shape
+        (view value.now))) }
 {
     match shape {
         Shape::SlowTimeout | Shape::Duration => duration_hint(alloc, value),
@@ -103,8 +104,8 @@ fn hint_at(
 
 // The table with a limit of so many failures, or the boolean that a text writes.
 fn limit_hint(alloc: Global, value: &Value) -> Result<Option<Hint>, AllocError>
-    ensures { IfOk result (λ hint. IsLimitHint (as_integer (view value.now))
-        (as_str (view value.now)) (option_map meant_of hint)) }
+    ensures { IfOk result (Suggests (IsLimitHint (as_integer (view value.now))
+        (as_str (view value.now)))) }
 {
     match value.as_integer() {
         Some(number) => count_hint(alloc, number),
@@ -113,7 +114,7 @@ fn limit_hint(alloc: Global, value: &Value) -> Result<Option<Hint>, AllocError>
 }
 
 fn count_hint(alloc: Global, number: i64) -> Result<Option<Hint>, AllocError>
-    ensures { IfOk result (λ hint. option_map meant_of hint ≡ limit_of_count number) }
+    ensures { IfOk result (λ hint. option_map suggestion_of hint ≡ limit_of_count number) }
 {
     if number < 1 {
         return Ok(None);
@@ -124,8 +125,8 @@ fn count_hint(alloc: Global, number: i64) -> Result<Option<Hint>, AllocError>
 
 // The header of an array of tables, for a table.
 fn tables_hint(alloc: Global, setting: &Setting, value: &Value) -> Result<Option<Hint>, AllocError>
-    ensures { IfOk result (λ hint. option_map meant_of hint
-        ≡ tables_meant (setting_view setting.now).path (as_table (view value.now))) }
+    ensures { IfOk result (λ hint. option_map suggestion_of hint
+        ≡ suggested_tables (setting_view setting.now).path (as_table (view value.now))) }
 {
     match value.as_table() {
         Some(_) => {
@@ -143,8 +144,7 @@ pub(crate) fn nearest_hint(
     name: &str,
     words: &[&str],
 ) -> Result<Option<Hint>, AllocError>
-    ensures { IfOk result (λ hint.
-        IsNearestMeant (words_of words.now) name.now (option_map meant_of hint)) }
+    ensures { IfOk result (Suggests (IsNearestSuggestion (words_of words.now) name.now)) }
 {
     let word = nearest(alloc, name, words)?;
     word_hint(alloc, word)
@@ -152,7 +152,7 @@ pub(crate) fn nearest_hint(
 
 /// The hint of a word, where there is one.
 pub(crate) fn word_hint(alloc: Global, word: Option<&str>) -> Result<Option<Hint>, AllocError>
-    ensures { IfOk result (λ hint. option_map meant_of hint
+    ensures { IfOk result (λ hint. option_map suggestion_of hint
         ≡ option_map the_word (option_map (λ word. word.now) word.entry)) }
 {
     match word {

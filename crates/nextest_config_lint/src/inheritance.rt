@@ -57,7 +57,8 @@ fn add_links_among<'a>(
     links: &mut BTreeMap<&'a str, Link<'a>>,
 ) -> Result<(), AllocError>
     ensures { OnOk result ((profile : List ℕ) → link_in links.new profile
-        ≡ link_over position (inherits_among profile (table_view profiles.now)) (link_in links.old profile)) }
+        ≡ link_over position (inherits_among profile (table_view profiles.now))
+        (link_in links.old profile)) }
 {
     for (name, profile) in profiles {
         add_link(position, name.as_str(), profile, links)?;
@@ -74,7 +75,8 @@ fn add_link<'a>(
 ) -> Result<(), AllocError>
     ensures { OnOk result ((other : List ℕ) → link_in links.new other
         ≡ cond (bytes_eq name.now other)
-        (link_over position (option_and_then (get_member inherits_key) (as_table (view profile.now)))
+        (link_over position (option_and_then (get_member inherits_key)
+        (as_table (view profile.now)))
         (link_in links.old other))
         (link_in links.old other)) }
 {

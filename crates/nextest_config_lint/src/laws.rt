@@ -1,6 +1,6 @@
 //! Laws of the definitions, for every document. They call nothing.
 
-ghost use Rattle.std.specs.Prelude.{◌≡◌, ◌↔◌, ◌-◌, ℕ, drop, false, List, Option, Some, take};
+ghost use Rattle.std.specs.Prelude.{◌≡◌, ◌↔◌, ◌-◌, ℕ, drop, List, Some, take};
 ghost use Rattle.std.specs.List.{AllByRecursion};
 ghost use Rattle.std.specs.Ordering.{nat_cmp};
 ghost use Rattle.toml.specs.Data.{Data, Members};
@@ -10,26 +10,17 @@ ghost use Rattle.nextest_config_values.specs.Literal.Value.{IsLiteral};
 ghost use Rattle.toml_spans.specs.Ranges.{IsAt, Range, Ranges};
 ghost use Rattle.toml_spans.specs.Step.{PathStep};
 ghost use Rattle.nextest_config_filters.specs.Fault.{Fault as TextFault};
-ghost use Rattle.nextest_config.specs.NextestVersion.{Ask, features_under, TextAsks, versions_reading};
+ghost use Rattle.nextest_config.specs.NextestVersion.{Ask, TextAsks};
 ghost use Rattle.nextest_config.specs.declared.nextest_version.edition.Edition.{Edition};
 ghost use Rattle.nextest_config.specs.declared.nextest_version.source.ConfigSourceKind.{ConfigSourceKind};
-ghost use Rattle.nextest_config_elements.specs.Fields.{features, fields, versions};
-ghost use Rattle.nextest_config_elements.specs.Junit.{junit_fields, junit_reading};
-ghost use Rattle.nextest_config_elements.specs.Keys.{feature_fields, version_fields};
-ghost use Rattle.nextest_config_elements.specs.LeakTimeout.{leak_timeout_fields, leak_timeout_reading};
-ghost use Rattle.nextest_config_elements.specs.MaxFail.{fail_fast_fields, fail_fast_reading};
-ghost use Rattle.nextest_config_elements.specs.RetryPolicy.{retries_parts, retry_policy_reading};
-ghost use Rattle.nextest_config_elements.specs.SlowTimeout.{slow_timeout_fields, slow_timeout_reading};
 ghost use Rattle.nextest_config_elements.specs.declared.field.Shape.{Shape};
-ghost use Rattle.nextest_config_elements.specs.declared.field.Shape.TheVariants as shapes;
 ghost use Rattle.nextest_config_lint.specs.Defined.{ListFile};
 ghost use Rattle.nextest_config_lint.specs.Document.{AreFindings};
 ghost use Rattle.nextest_config_lint.specs.File.{AreLocated};
 ghost use Rattle.nextest_config_lint.specs.Finding.{rank};
-ghost use Rattle.nextest_config_lint.specs.FindingsLaws.{FindsItsFault, IsFileWithoutError, IsNoLocatedError, IsNoError, IsTakenWhole, IsWithoutError, LeadsToValue, own_findings};
-ghost use Rattle.nextest_config_lint.specs.Found.{Found, Meant, the_toml};
-ghost use Rattle.nextest_config_lint.specs.Hints.Written.{IsMeantByText, Writes};
-ghost use Rattle.nextest_config_lint.specs.Settings.{has_default_period};
+ghost use Rattle.nextest_config_lint.specs.FindingsLaws.{FindsItsFault, IsFileWithoutError, IsNoLocatedError, IsNoError, IsTakenWhole, IsWithoutError, LeadsToValue, own_findings, versions_setting, features_setting, retries_setting, slow_timeout_setting, leak_timeout_setting, fail_fast_setting, junit_setting};
+ghost use Rattle.nextest_config_lint.specs.Found.{Found, Suggestion, the_toml};
+ghost use Rattle.nextest_config_lint.specs.Hints.Written.{IsSuggestedByText, Writes};
 ghost use Rattle.nextest_config_lint.specs.Shapes.{shape_check};
 ghost use Rattle.nextest_config_lint.specs.TextRange.{plain_range, text_at};
 ghost use Rattle.nextest_config_lint.specs.declared.file.LocatedFinding.{LocatedFinding};
@@ -53,7 +44,8 @@ pub fn law_findings_once()
         → AreFindings edition kind files position members b → a ≡ b }
 {}
 
-/// Where a fault of a text stands at bytes of its own, the file has there what it tells of the text.
+/// Where a fault of a text stands at bytes of its own, the file has there what it tells of the
+/// text.
 pub fn law_text_range()
     ensures { (contents : List ℕ) (ranges : Ranges) (path : List PathStep) (fault : TextFault)
         (range : Range) → plain_range contents ranges path fault ≡ Some range
@@ -111,56 +103,32 @@ pub fn law_no_error_reads()
 /// A boolean or an integer that is hinted at is one that the text writes, and that the shape takes
 /// under each edition.
 pub fn law_hint_taken()
-    ensures { (edition : Edition) (shape : Shape) (text : List ℕ) (meant : Meant)
-        → IsMeantByText shape text (Some meant) → (value : Data) × Writes text value
+    ensures { (edition : Edition) (shape : Shape) (text : List ℕ) (suggestion : Suggestion)
+        → IsSuggestedByText shape text (Some suggestion) → (value : Data) × Writes text value
         × (shape_check edition shape).passes value
-        × ((told : List ℕ) × IsLiteral value told × (meant ≡ the_toml told)) }
+        × ((written : List ℕ) × IsLiteral value written × (suggestion ≡ the_toml written)) }
 {}
 
 /// Key by key, nothing is wrong with a value of a setting exactly where its reader takes it whole:
 /// of a timeout, where nextest's own configuration doesn't supply the period.
 pub fn law_taken_key_by_key()
-    ensures versions { (edition : Edition) (path : List PathStep) (value : Data)
-        → IsTakenWhole versions_reading edition shapes.NextestVersion (versions version_fields)
-        path value }
-    ensures features { (edition : Edition) (path : List PathStep) (value : Data)
-        → IsTakenWhole (features_under edition) edition shapes.Experimental
-        (features feature_fields) path value }
-    ensures slow_timeout { (edition : Edition) (path : List PathStep) (value : Data)
-        → has_default_period path ≡ false → IsTakenWhole slow_timeout_reading edition
-        shapes.SlowTimeout (fields slow_timeout_fields) path value }
-    ensures leak_timeout { (edition : Edition) (path : List PathStep) (value : Data)
-        → has_default_period path ≡ false → IsTakenWhole leak_timeout_reading edition
-        shapes.LeakTimeout (fields leak_timeout_fields) path value }
-    ensures retries { (edition : Edition) (path : List PathStep) (value : Data)
-        → IsTakenWhole retry_policy_reading edition shapes.Retries retries_parts path value }
-    ensures fail_fast { (edition : Edition) (path : List PathStep) (value : Data)
-        → IsTakenWhole fail_fast_reading edition shapes.FailFast (fields fail_fast_fields)
-        path value }
-    ensures junit { (edition : Edition) (path : List PathStep) (value : Data)
-        → IsTakenWhole junit_reading edition shapes.Table (fields junit_fields) path value }
+    ensures versions { IsTakenWhole versions_setting }
+    ensures features { IsTakenWhole features_setting }
+    ensures retries { IsTakenWhole retries_setting }
+    ensures slow_timeout { IsTakenWhole slow_timeout_setting }
+    ensures leak_timeout { IsTakenWhole leak_timeout_setting }
+    ensures fail_fast { IsTakenWhole fail_fast_setting }
+    ensures junit { IsTakenWhole junit_setting }
 {}
 
-/// Key by key, the one fault that the reader of a setting finds in a value is found, too: at the same
-/// place, for the same cause.
+/// Key by key, the one fault that the reader of a setting finds in a value is found, too: at the
+/// same place, for the same cause.
 pub fn law_reader_fault_found()
-    ensures versions { (edition : Edition) (path : List PathStep) (value : Data)
-        → FindsItsFault versions_reading edition shapes.NextestVersion (versions version_fields)
-        path value }
-    ensures features { (edition : Edition) (path : List PathStep) (value : Data)
-        → FindsItsFault (features_under edition) edition shapes.Experimental
-        (features feature_fields) path value }
-    ensures retries { (edition : Edition) (path : List PathStep) (value : Data)
-        → FindsItsFault retry_policy_reading edition shapes.Retries retries_parts path value }
-    ensures slow_timeout { (edition : Edition) (path : List PathStep) (value : Data)
-        → has_default_period path ≡ false → FindsItsFault slow_timeout_reading edition
-        shapes.SlowTimeout (fields slow_timeout_fields) path value }
-    ensures leak_timeout { (edition : Edition) (path : List PathStep) (value : Data)
-        → has_default_period path ≡ false → FindsItsFault leak_timeout_reading edition
-        shapes.LeakTimeout (fields leak_timeout_fields) path value }
-    ensures fail_fast { (edition : Edition) (path : List PathStep) (value : Data)
-        → FindsItsFault fail_fast_reading edition shapes.FailFast (fields fail_fast_fields)
-        path value }
-    ensures junit { (edition : Edition) (path : List PathStep) (value : Data)
-        → FindsItsFault junit_reading edition shapes.Table (fields junit_fields) path value }
+    ensures versions { FindsItsFault versions_setting }
+    ensures features { FindsItsFault features_setting }
+    ensures retries { FindsItsFault retries_setting }
+    ensures slow_timeout { FindsItsFault slow_timeout_setting }
+    ensures leak_timeout { FindsItsFault leak_timeout_setting }
+    ensures fail_fast { FindsItsFault fail_fast_setting }
+    ensures junit { FindsItsFault junit_setting }
 {}

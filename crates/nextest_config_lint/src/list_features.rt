@@ -115,7 +115,8 @@ impl ListFeatures {
 
     // What a file says whose value of `experimental` has a fault.
     fn of_fault(fault: ValueFault) -> Result<ListFeatures, AllocError>
-        ensures { IfOk result (λ features. (features ≡ features_refused) × IsSome (fault_of fault)) }
+        ensures { IfOk result (λ features. (features ≡ features_refused)
+            × IsSome (fault_of fault)) }
     {
         if fault.is_memory() {
             return Err(AllocError);

@@ -177,7 +177,8 @@ fn whole(alloc: Global, front: &str) -> Section<'_>
 fn behind(alloc: Global, part: &str) -> Result<Option<Section<'_>>, AllocError>
     ensures section { IfOk result
         (λ section. option_map section_view section ≡ section_behind part.now) }
-    ensures same { IfOk result (λ section. IfSome section (λ section. section.part.now ≡ part.now)) }
+    ensures same { IfOk result (λ section. IfSome section
+        (λ section. section.part.now ≡ part.now)) }
 {
     let header = skip_ws(part);
     let Some(key) = statement_key(alloc, header)? else {
@@ -243,7 +244,8 @@ fn repeated_in(
     key: Key,
 ) -> Result<Option<Mistake>, AllocError>
     requires { length section.part.now ≤ length front.now }
-    ensures { IfOk result (λ mistake. IsRepeatedIn front.now (section_view section.entry) (key_view key)
+    ensures { IfOk result (λ mistake. IsRepeatedIn front.now (section_view section.entry)
+        (key_view key)
         (option_map mistaken_of mistake)) }
 {
     let Section {

@@ -21,8 +21,8 @@ use std::alloc::{AllocError, Global};
 use toml::Value;
 
 /// Whether nothing is wrong with the value at a key of a profile, and with what stands in it. Of a
-/// key that isn't known nothing is. The syntax of a text isn't asked, so what a profile gets is told
-/// as it is written.
+/// key that isn't known nothing is. The syntax of a text isn't asked, so what a profile gets is
+/// told as it is written.
 pub fn is_right_at(alloc: Global, key: &str, value: &Value) -> Result<bool, AllocError>
     ensures { IfOk result (λ right. IsTrue right ↔ IsRightAt key.now (view value.now)) }
 {
@@ -60,7 +60,8 @@ impl Visitor for Rightness {
 
 // Whether nothing is wrong with what is judged.
 fn is_right(alloc: Global, setting: &Setting) -> Result<bool, AllocError>
-    ensures { IfOk result (λ right. IsTrue right ↔ HasNoFault TableOnly (setting_view setting.now)) }
+    ensures { IfOk result (λ right. IsTrue right ↔ HasNoFault TableOnly
+        (setting_view setting.now)) }
 {
     match setting.subject {
         Subject::Value { shape, value, .. } => {

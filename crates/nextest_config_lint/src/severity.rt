@@ -14,7 +14,7 @@ use nextest_config_values::read::{FaultCause, FaultKind, ValueFault};
 /// How grave a fault is: a warning where nextest may take the value all the same.
 pub(crate) fn severity_of(setting: &Setting, fault: &ValueFault) -> FindingSeverity
     ensures { IfSome (fault_of fault.now)
-        (λ told. IsSeverity (setting_view setting.now) told result) }
+        (λ seen. IsSeverity (setting_view setting.now) seen result) }
 {
     if is_converted(setting, fault) {
         return FindingSeverity::Warning;
@@ -35,7 +35,7 @@ fn plain_severity(severity: FaultSeverity) -> FindingSeverity
 // Whether the value is of a wrong kind, and nextest may make one of the wanted kind of it.
 fn is_converted(setting: &Setting, fault: &ValueFault) -> bool
     ensures { IfSome (fault_of fault.now)
-        (λ told. IsTrue result ↔ IsConverted (setting_view setting.now) told) }
+        (λ seen. IsTrue result ↔ IsConverted (setting_view setting.now) seen) }
 {
     if setting.severity != FaultSeverity::ErrorUnlessConverted {
         return false;
@@ -45,7 +45,7 @@ fn is_converted(setting: &Setting, fault: &ValueFault) -> bool
 
 // Whether the value is of a kind that isn't taken.
 fn is_wrong_type(cause: &FaultCause) -> bool
-    ensures { IfSome (cause_of cause.now) (λ told. IsTrue result ↔ IsWrongType told) }
+    ensures { IfSome (cause_of cause.now) (λ seen. IsTrue result ↔ IsWrongType seen) }
 {
     match cause {
         FaultCause::Kind(FaultKind::InvalidType { .. }) => true,

@@ -29,7 +29,8 @@ pub(crate) fn plain_span(
     fault: &TextFault,
 ) -> Option<Span>
     requires { IsIndexed file }
-    ensures { IsSpanOf file.entry.text.now (plain_range file.entry.text.now (ranges_in file.entry.index.now)
+    ensures { IsSpanOf file.entry.text.now (plain_range file.entry.text.now
+        (ranges_in file.entry.index.now)
         (map step_of path.now) (fault_of fault.now)) result }
 {
     let text = text_in(file.document, path)?;
@@ -74,7 +75,8 @@ fn is_plain(written: &[u8], text: &[u8]) -> bool
     &written[opening..opening + text.len()] == text
 }
 
-// How many bytes stand before the text of a string: its quotes, and a line end behind three of them.
+// How many bytes stand before the text of a string: its quotes, and a line end behind three of
+// them.
 fn opening_of(written: &[u8]) -> usize
     ensures value { result ≡ opening_of written.now }
     ensures few { result < 6 }

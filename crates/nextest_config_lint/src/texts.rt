@@ -5,7 +5,7 @@ ghost use Rattle.nextest_config_filters.specs.Fault.{Fault as TextFaultOf, fault
 ghost use Rattle.nextest_config_lint.specs.Found.{found_at, found_of, wrong_text};
 ghost use Rattle.nextest_config_lint.specs.Settings.{setting_view, subject_view};
 ghost use Rattle.nextest_config_lint.specs.Texts.{HasNoTextFault, IsFaultIn, IsTextFault};
-ghost use Rattle.nextest_config_lint.specs.Values.{TellsText};
+ghost use Rattle.nextest_config_lint.specs.Values.{ReportsText};
 
 use crate::finding::{Finding, FindingKind};
 use crate::settings::{Setting, Subject};
@@ -16,7 +16,7 @@ use std::alloc::{AllocError, Global};
 
 /// What is found of what is judged, where it is a text.
 pub(crate) fn find_in_text(alloc: Global, setting: &Setting) -> Result<ValueFindings, AllocError>
-    ensures { IfOk result (TellsText (setting_view setting.now)) }
+    ensures { IfOk result (ReportsText (setting_view setting.now)) }
 {
     match text_fault(alloc, setting.subject)? {
         Some(fault) => {

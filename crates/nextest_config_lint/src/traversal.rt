@@ -8,13 +8,12 @@ ghost use Rattle.toml_spans.specs.Step.{index as place};
 ghost use Rattle.nextest_config_elements.specs.Fields.{elements_or_fields, features, field_words, fields_view, parts_of, versions};
 ghost use Rattle.nextest_config_elements.specs.RetryRules.{backoff_in};
 ghost use Rattle.nextest_config_lint.specs.Settings.{at_items, at_names, expected_by, has_default_period, in_retries, in_table, is_wanted, mark_step, names_of, of_absent, of_field, of_name, plain_element, plain_elements, seen_field, setting_at, setting_view, settings_below, settings_in, settings_of, settings_of_fields, SettingView, subject_view};
-ghost use Rattle.nextest_config_lint.specs.Traversal.{Visits};
+ghost use Rattle.nextest_config_lint.specs.Traversal.{IsBack, Shows, Visits};
 
 use crate::settings::{Mark, Rules, Setting, Subject, is_among, is_key};
 use nextest_config_elements::field::{FaultSeverity, Field, Parts, Shape};
 use nextest_config_elements::keys::file_fields;
 use nextest_config_elements::retry_policy::Backoff;
-use nextest_config_values::read::value_at;
 use std::alloc::{AllocError, Global};
 use toml::value::Array;
 use toml::{Table, Value};
@@ -85,10 +84,9 @@ impl<'a, V: Visitor> Traversal<'a, V> {
 
     // Shows what is judged at the path.
     fn show(&mut self, severity: FaultSeverity, subject: Subject<'a>) -> Result<(), AllocError>
-        ensures path { self.new.path.items ≡ self.old.path.items }
-        ensures visited { OnOk result (Visits V.has_visited
-            (setting_at severity (map mark_step self.old.path.items) (subject_view subject.entry)
-            ∷ []) self.old.visitor self.new.visitor) }
+        ensures path { IsBack self.old self.new }
+        ensures visited { OnOk result (Shows V.has_visited (λ path.
+            setting_at severity path (subject_view subject.entry) ∷ []) self.old self.new) }
     {
         let setting = Setting {
             severity,
@@ -106,11 +104,10 @@ impl<'a, V: Visitor> Traversal<'a, V> {
         severity: FaultSeverity,
         table: &'a Table,
     ) -> Result<(), AllocError>
-        ensures path { OnOk result (self.new.path.items ≡ self.old.path.items) }
-        ensures visited { OnOk result (Visits V.has_visited
-            (settings_of_fields (fields_view fields.now) severity
-            (map mark_step self.old.path.items) (table_view table.now))
-            self.old.visitor self.new.visitor) }
+        ensures path { OnOk result (IsBack self.old self.new) }
+        ensures visited { OnOk result (Shows V.has_visited (λ path.
+            settings_of_fields (fields_view fields.now) severity path (table_view table.now))
+            self.old self.new) }
     {
         for field in fields {
             self.visit_field(field, severity, table)?;
@@ -126,13 +123,13 @@ impl<'a, V: Visitor> Traversal<'a, V> {
         severity: FaultSeverity,
         table: &'a Table,
     ) -> Result<(), AllocError>
-        ensures path { OnOk result (self.new.path.items ≡ self.old.path.items) }
-        ensures visited { OnOk result (Visits V.has_visited
-            (of_field severity (seen_field field.now) (map mark_step self.old.path.items)
-            (table_view table.now)) self.old.visitor self.new.visitor) }
+        ensures path { OnOk result (IsBack self.old self.new) }
+        ensures visited { OnOk result (Shows V.has_visited (λ path.
+            of_field severity (seen_field field.now) path (table_view table.now))
+            self.old self.new) }
     {
         let severity = field.severity.within(severity);
-        match value_at(table, field.key) {
+        match table.get(field.key) {
             Some(value) => {
                 let key = Mark::Key(field.key);
                 self.visit_below(key, field.shape, severity, &field.parts, value)
@@ -151,11 +148,10 @@ impl<'a, V: Visitor> Traversal<'a, V> {
         parts: &Parts,
         value: &'a Value,
     ) -> Result<(), AllocError>
-        ensures path { OnOk result (self.new.path.items ≡ self.old.path.items) }
-        ensures visited { OnOk result (Visits V.has_visited
-            (settings_in shape severity (parts_of parts.now)
-            (map mark_step self.old.path.items ++ (mark_step step.entry ∷ [])) (view value.now))
-            self.old.visitor self.new.visitor) }
+        ensures path { OnOk result (IsBack self.old self.new) }
+        ensures visited { OnOk result (Shows V.has_visited (λ path.
+            settings_in shape severity (parts_of parts.now) (path ++ (mark_step step.entry ∷ []))
+            (view value.now)) self.old self.new) }
     {
         self.path.push(step)?;
         self.visit_value(shape, severity, parts, value)?;
@@ -172,10 +168,10 @@ impl<'a, V: Visitor> Traversal<'a, V> {
         parts: &Parts,
         value: &'a Value,
     ) -> Result<(), AllocError>
-        ensures path { OnOk result (self.new.path.items ≡ self.old.path.items) }
-        ensures visited { OnOk result (Visits V.has_visited
-            (settings_in shape severity (parts_of parts.now) (map mark_step self.old.path.items)
-            (view value.now)) self.old.visitor self.new.visitor) }
+        ensures path { OnOk result (IsBack self.old self.new) }
+        ensures visited { OnOk result (Shows V.has_visited (λ path.
+            settings_in shape severity (parts_of parts.now) path (view value.now))
+            self.old self.new) }
     {
         let subject = Subject::Value {
             shape,
@@ -194,10 +190,9 @@ impl<'a, V: Visitor> Traversal<'a, V> {
         parts: &Parts,
         value: &'a Value,
     ) -> Result<(), AllocError>
-        ensures path { OnOk result (self.new.path.items ≡ self.old.path.items) }
-        ensures visited { OnOk result (Visits V.has_visited
-            (settings_below (parts_of parts.now) severity (map mark_step self.old.path.items)
-            (view value.now)) self.old.visitor self.new.visitor) }
+        ensures path { OnOk result (IsBack self.old self.new) }
+        ensures visited { OnOk result (Shows V.has_visited (λ path.
+            settings_below (parts_of parts.now) severity path (view value.now)) self.old self.new) }
     {
         match parts {
             Parts::Nothing => Ok(()),
@@ -238,11 +233,10 @@ impl<'a, V: Visitor> Traversal<'a, V> {
         fields: &[Field],
         value: &'a Value,
     ) -> Result<(), AllocError>
-        ensures path { OnOk result (self.new.path.items ≡ self.old.path.items) }
-        ensures visited { OnOk result (Visits V.has_visited
-            (settings_below (versions (fields_view fields.now)) severity
-            (map mark_step self.old.path.items) (view value.now))
-            self.old.visitor self.new.visitor) }
+        ensures path { OnOk result (IsBack self.old self.new) }
+        ensures visited { OnOk result (Shows V.has_visited (λ path.
+            settings_below (versions (fields_view fields.now)) severity path (view value.now))
+            self.old self.new) }
     {
         let Some(table) = value.as_table() else {
             return Ok(());
@@ -259,11 +253,10 @@ impl<'a, V: Visitor> Traversal<'a, V> {
         fields: &[Field],
         value: &'a Value,
     ) -> Result<(), AllocError>
-        ensures path { OnOk result (self.new.path.items ≡ self.old.path.items) }
-        ensures visited { OnOk result (Visits V.has_visited
-            (settings_below (features (fields_view fields.now)) severity
-            (map mark_step self.old.path.items) (view value.now))
-            self.old.visitor self.new.visitor) }
+        ensures path { OnOk result (IsBack self.old self.new) }
+        ensures visited { OnOk result (Shows V.has_visited (λ path.
+            settings_below (features (fields_view fields.now)) severity path (view value.now))
+            self.old self.new) }
     {
         self.visit_either(Shape::FeatureName, severity, fields, value)?;
         self.show(severity, Subject::Features(value))
@@ -278,11 +271,10 @@ impl<'a, V: Visitor> Traversal<'a, V> {
         fields: &[Field],
         value: &'a Value,
     ) -> Result<(), AllocError>
-        ensures path { OnOk result (self.new.path.items ≡ self.old.path.items) }
-        ensures visited { OnOk result (Visits V.has_visited
-            (settings_below (elements_or_fields shape (fields_view fields.now)) severity
-            (map mark_step self.old.path.items) (view value.now))
-            self.old.visitor self.new.visitor) }
+        ensures path { OnOk result (IsBack self.old self.new) }
+        ensures visited { OnOk result (Shows V.has_visited (λ path.
+            settings_below (elements_or_fields shape (fields_view fields.now)) severity path (view
+            value.now)) self.old self.new) }
     {
         match value.as_table() {
             Some(table) => self.visit_fields(fields, severity, table),
@@ -301,11 +293,10 @@ impl<'a, V: Visitor> Traversal<'a, V> {
         known: &'static [Field],
         value: &'a Value,
     ) -> Result<(), AllocError>
-        ensures path { OnOk result (self.new.path.items ≡ self.old.path.items) }
-        ensures visited { OnOk result (Visits V.has_visited
-            (in_table (in_retries severity (fields_view known.now))
-            (map mark_step self.old.path.items) (view value.now))
-            self.old.visitor self.new.visitor) }
+        ensures path { OnOk result (IsBack self.old self.new) }
+        ensures visited { OnOk result (Shows V.has_visited (λ path.
+            in_table (in_retries severity (fields_view known.now)) path (view value.now))
+            self.old self.new) }
     {
         let Some(table) = value.as_table() else {
             return Ok(());
@@ -325,11 +316,10 @@ impl<'a, V: Visitor> Traversal<'a, V> {
         parts: &Parts,
         table: &'a Table,
     ) -> Result<(), AllocError>
-        ensures path { OnOk result (self.new.path.items ≡ self.old.path.items) }
-        ensures visited { OnOk result (Visits V.has_visited
-            (at_names (settings_in shape severity (parts_of parts.now))
-            (map mark_step self.old.path.items) (table_view table.now))
-            self.old.visitor self.new.visitor) }
+        ensures path { OnOk result (IsBack self.old self.new) }
+        ensures visited { OnOk result (Shows V.has_visited (λ path.
+            at_names (settings_in shape severity (parts_of parts.now)) path (table_view table.now))
+            self.old self.new) }
     {
         for (name, value) in table {
             self.visit_below(Mark::Key(name.as_str()), shape, severity, parts, value)?;
@@ -346,11 +336,11 @@ impl<'a, V: Visitor> Traversal<'a, V> {
         parts: &Parts,
         array: &'a Array,
     ) -> Result<(), AllocError>
-        ensures path { OnOk result (self.new.path.items ≡ self.old.path.items) }
-        ensures visited { OnOk result (Visits V.has_visited
-            (at_items (settings_in shape severity (parts_of parts.now))
-            (map mark_step self.old.path.items) 0 (array_view array.now))
-            self.old.visitor self.new.visitor) }
+        ensures path { OnOk result (IsBack self.old self.new) }
+        ensures visited { OnOk result (Shows V.has_visited (λ path.
+            at_items (settings_in shape severity (parts_of parts.now)) path 0
+            (array_view array.now))
+            self.old self.new) }
     {
         for (index, value) in array.iter().enumerate() {
             self.visit_below(Mark::Index(index), shape, severity, parts, value)?;
@@ -365,10 +355,9 @@ impl<'a, V: Visitor> Traversal<'a, V> {
         severity: FaultSeverity,
         array: &'a Array,
     ) -> Result<(), AllocError>
-        ensures path { OnOk result (self.new.path.items ≡ self.old.path.items) }
-        ensures visited { OnOk result (Visits V.has_visited
-            (plain_elements shape severity (map mark_step self.old.path.items)
-            (array_view array.now)) self.old.visitor self.new.visitor) }
+        ensures path { OnOk result (IsBack self.old self.new) }
+        ensures visited { OnOk result (Shows V.has_visited (λ path.
+            plain_elements shape severity path (array_view array.now)) self.old self.new) }
     {
         for (index, value) in array.iter().enumerate() {
             self.show_element(shape, severity, index, value)?;
@@ -384,10 +373,10 @@ impl<'a, V: Visitor> Traversal<'a, V> {
         index: usize,
         value: &'a Value,
     ) -> Result<(), AllocError>
-        ensures path { OnOk result (self.new.path.items ≡ self.old.path.items) }
-        ensures visited { OnOk result (Visits V.has_visited
-            (plain_element shape severity (map mark_step self.old.path.items ++ (place index ∷ []))
-            (view value.now)) self.old.visitor self.new.visitor) }
+        ensures path { OnOk result (IsBack self.old self.new) }
+        ensures visited { OnOk result (Shows V.has_visited (λ path.
+            plain_element shape severity (path ++ (place index ∷ [])) (view value.now))
+            self.old self.new) }
     {
         let parts = Parts::Nothing;
         self.path.push(Mark::Index(index))?;
@@ -405,10 +394,9 @@ impl<'a, V: Visitor> Traversal<'a, V> {
 
     // Shows that a table lacks a key, if it has to have it.
     fn show_absent(&mut self, field: &Field, severity: FaultSeverity) -> Result<(), AllocError>
-        ensures path { self.new.path.items ≡ self.old.path.items }
-        ensures visited { OnOk result (Visits V.has_visited
-            (of_absent severity (seen_field field.now).0 (map mark_step self.old.path.items))
-            self.old.visitor self.new.visitor) }
+        ensures path { IsBack self.old self.new }
+        ensures visited { OnOk result (Shows V.has_visited (λ path.
+            of_absent severity (seen_field field.now).0 path) self.old self.new) }
     {
         if is_wanted(field, self.path.as_slice()) {
             self.show(severity, Subject::AbsentKey(field.key))
@@ -425,11 +413,10 @@ impl<'a, V: Visitor> Traversal<'a, V> {
         expected: &'static [&'static str],
         table: &'a Table,
     ) -> Result<(), AllocError>
-        ensures path { OnOk result (self.new.path.items ≡ self.old.path.items) }
-        ensures visited { OnOk result (Visits V.has_visited
-            (flat_map (of_name severity (words_of expected.now) (field_words (fields_view known.now))
-            (map mark_step self.old.path.items)) (names_of (table_view table.now)))
-            self.old.visitor self.new.visitor) }
+        ensures path { OnOk result (IsBack self.old self.new) }
+        ensures visited { OnOk result (Shows V.has_visited (λ path.
+            flat_map (of_name severity (words_of expected.now) (field_words (fields_view known.now))
+            path) (names_of (table_view table.now))) self.old self.new) }
     {
         for name in table.keys() {
             self.show_unknown(severity, known, expected, name.as_str())?;
@@ -445,10 +432,10 @@ impl<'a, V: Visitor> Traversal<'a, V> {
         expected: &'static [&'static str],
         name: &'a str,
     ) -> Result<(), AllocError>
-        ensures path { self.new.path.items ≡ self.old.path.items }
-        ensures visited { OnOk result (Visits V.has_visited
-            (of_name severity (words_of expected.now) (field_words (fields_view known.now))
-            (map mark_step self.old.path.items) name.now) self.old.visitor self.new.visitor) }
+        ensures path { IsBack self.old self.new }
+        ensures visited { OnOk result (Shows V.has_visited (λ path.
+            of_name severity (words_of expected.now) (field_words (fields_view known.now)) path
+            name.now) self.old self.new) }
     {
         if is_among(known, name) {
             return Ok(());

@@ -5,7 +5,7 @@ ghost use Rattle.toml.specs.Data.{table};
 ghost use Rattle.toml.specs.View.{table_view, view};
 ghost use Rattle.nextest_config_elements.specs.Fields.{field_words, fields_view, parts_of};
 ghost use Rattle.nextest_config_elements.specs.Keys.{file_table};
-ghost use Rattle.nextest_config_lint.specs.Found.{AddsFound, AddsOne, AreFoundIn, meant_of, TellsSome};
+ghost use Rattle.nextest_config_lint.specs.Found.{AddsFound, AddsOne, AreFoundIn, ReportsSome, Suggests};
 ghost use Rattle.nextest_config_lint.specs.Settings.{is_known, setting_view, mark_step, names_of};
 ghost use Rattle.nextest_config_values.specs.Read.{words_of};
 ghost use Rattle.nextest_config_lint.specs.Unknown.{is_junit_of_script, scope_of, scope_words, scopes_at, IsHintFor, IsKeyFound, key_at, keys_among, keys_below, keys_in, pieces_of, slip_of, word_with_part};
@@ -122,8 +122,8 @@ fn hint_for(
     path: &[Mark],
     name: &str,
 ) -> Result<Option<Hint>, AllocError>
-    ensures { IfOk result (λ hint. IsHintFor (words_of known.now) (map mark_step path.now) name.now
-        (option_map meant_of hint)) }
+    ensures { IfOk result (Suggests (IsHintFor (words_of known.now) (map mark_step path.now)
+        name.now)) }
 {
     let near = nearest(alloc, name, known)?;
     let slip = slip_of(alloc, name, near)?;

@@ -4,7 +4,7 @@ ghost use Rattle.std.specs.Prelude.{◌≡◌, ◌++◌, [], ◌∷◌, IfOk, Is
 ghost use Rattle.toml.specs.View.{view};
 ghost use Rattle.nextest_config_values.specs.Read.{fault_of};
 ghost use Rattle.nextest_config_lint.specs.Settings.{features_at, setting_view};
-ghost use Rattle.nextest_config_lint.specs.Values.{IsEmpty, TellsFault, TellsText, TellsValue};
+ghost use Rattle.nextest_config_lint.specs.Values.{IsEmpty, ReportsFault, ReportsText, ReportsValue};
 
 use crate::faults::find_of_fault;
 use crate::features::find_of_features;
@@ -93,7 +93,7 @@ pub(crate) fn find_in_value(
     edition: Edition,
     setting: &Setting,
 ) -> Result<ValueFindings, AllocError>
-    ensures { IfOk result (TellsValue edition source.now (setting_view setting.now)) }
+    ensures { IfOk result (ReportsValue edition source.now (setting_view setting.now)) }
 {
     match setting.subject {
         Subject::Value { shape, value, .. } => {
@@ -122,8 +122,8 @@ fn find_by(
     setting: &Setting,
     checked: Result<(), ValueFault>,
 ) -> Result<ValueFindings, AllocError>
-    ensures { MatchResult checked (λ _. IfOk result (TellsText (setting_view setting.now)))
-        (λ fault. IfOk result (TellsFault (setting_view setting.now) (fault_of fault))) }
+    ensures { MatchResult checked (λ _. IfOk result (ReportsText (setting_view setting.now)))
+        (λ fault. IfOk result (ReportsFault (setting_view setting.now) (fault_of fault))) }
 {
     match checked {
         Ok(()) => find_in_text(alloc, setting),
@@ -131,8 +131,8 @@ fn find_by(
     }
 }
 
-// What is found of the features that a value names; where it doesn't read, that is told where it is
-// wrong.
+// What is found of the features that a value names; where it doesn't read, that is reported where
+// it is wrong.
 fn find_features(
     alloc: Global,
     source: &ConfigSourceKind,
@@ -141,7 +141,7 @@ fn find_features(
     value: &Value,
 ) -> Result<ValueFindings, AllocError>
     requires { (setting_view setting.now).subject ≡ features_at (view value.now) }
-    ensures { IfOk result (TellsValue edition source.now (setting_view setting.now)) }
+    ensures { IfOk result (ReportsValue edition source.now (setting_view setting.now)) }
 {
     match ExperimentalDeserialize::read_under(alloc, edition, value) {
         Ok(named) => find_of_features(alloc, source, setting, value, named),

@@ -1,21 +1,17 @@
 -- A line of printable ASCII that isn't cut is shown as it is.
-use Rattle.std.proofs.Common.{◌≡◌, ◌∙◌, ℕ, ◌<◌, ◌≤◌, ◌==◌, cond, zero, suc, Bool, true, false, List, [], ◌∷◌, flat_map, length, take, ap, arith, refl, sym}
-use Rattle.std.proofs.lemmas.Bool.{true≢false}
+use Rattle.std.proofs.Common.{◌≡◌, ◌∙◌, ℕ, ◌<◌, ◌≤◌, ◌==◌, zero, suc, true, false, List, [], ◌∷◌, flat_map, length, take, ap, arith, refl, sym}
 use Rattle.std.proofs.lemmas.Bool.Decides.{nat_tests}
 use Rattle.std.proofs.lemmas.List.{append-nil}
 use Rattle.std.specs.List.{list_all}
 use Rattle.std.specs.Prelude.{chars}
 use Rattle.nextest_config_values.proofs.Printable.{ascii_chars, bounds, shown_itself, text_stays}
 use Rattle.nextest_config_values.specs.Literal.Shown.{is_printable}
+use Rattle.nextest_config_output.proofs.PlainTexts.{unless}
 use Rattle.nextest_config_output.specs.Findings.Excerpt.{is_cut, shown_line}
 use Rattle.nextest_config_output.specs.Findings.Excerpt.Shown.{character_shown}
 
 no_tab : (c : ℕ) → 32 ≤ c → (c == 9) ≡ false
 no_tab c low = grind (arith, nat_tests)
-
-unless : (b : Bool) (xs ys : List ℕ) {zs : List ℕ} → b ≡ false → ys ≡ zs → cond b xs ys ≡ zs
-unless true xs ys is same = absurd (true≢false is)
-unless false xs ys is same = same
 
 itself : (c : ℕ) → is_printable c ≡ true → character_shown c ≡ c ∷ []
 itself c is = unless (c == 9) _ _ (no_tab c (bounds c is).0) (shown_itself c is)

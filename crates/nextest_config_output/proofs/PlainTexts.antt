@@ -8,7 +8,7 @@ use Rattle.nextest_config_output.specs.Findings.Escapes.{escaped_character, esca
 use Rattle.nextest_config_output.specs.declared.findings.escapes.Escapes.{Escapes}
 use Rattle.nextest_config_output.specs.declared.findings.escapes.Escapes.TheVariants.{InLine, Message, Property}
 
-unless : (b : Bool) (xs ys : List ℕ) {zs : List ℕ} → b ≡ false → ys ≡ zs → cond b xs ys ≡ zs
+pub unless : (b : Bool) (xs ys : List ℕ) {zs : List ℕ} → b ≡ false → ys ≡ zs → cond b xs ys ≡ zs
 unless true xs ys is same = absurd (true≢false is)
 unless false xs ys is same = same
 

@@ -2,13 +2,14 @@ pub mod AsJson
 pub mod Chain
 pub mod Columns
 pub mod Human
-pub mod Keys
+pub mod KeyPath
 pub mod Time
-pub mod Line
-pub mod Lines
+pub mod SourcedLine
+pub mod SettingLines
 pub mod Object
 pub mod OtherProfiles
 pub mod Overrides
 pub mod Format
 pub mod Source
 pub mod Location
+pub mod ToJson

@@ -1,4 +1,4 @@
-//! How findings are told.
+//! How findings are reported.
 
 mod diagnostic;
 mod escapes;

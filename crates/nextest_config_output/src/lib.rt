@@ -1,4 +1,4 @@
-//! How findings and what is told of a profile are printed, for people and for programs.
+//! How findings and what is reported of a profile are printed, for people and for programs.
 #![tactic(auto)]
 
 pub mod findings;

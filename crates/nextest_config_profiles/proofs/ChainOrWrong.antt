@@ -1,6 +1,6 @@
 -- A name that has a chain has nothing wrong with it.
 use Rattle.std.proofs.Common.{◌≡◌, ◌≢◌, ◌<◌, ℕ, List, [], ◌∷◌, ◌++◌, None, ap, arith, length, subst, inl, inr}
-use Rattle.toml.specs.Data.{array, as_str, boolean, Data, datetime, float, integer, member, no_members, string, table}
+use Rattle.toml.specs.Data.{as_str, Data, member, string, table}
 use Rattle.nextest_config_profiles.specs.Chain.{Inherits, InheritsNoText, IsChain, IsNext, IsWay, IsWrong, Leads, LeadsOn, no_profile, not_defined, not_text, of_inherits, ring, Wrong}
 use Rattle.nextest_config_profiles.specs.Merged.{Layers}
 use Rattle.nextest_config_profiles.specs.Profiles.{default_profile, IsProfile}

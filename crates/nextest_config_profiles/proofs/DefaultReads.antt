@@ -17,7 +17,7 @@ use Rattle.nextest_config_elements.specs.declared.leak_timeout.LeakTimeoutResult
 use Rattle.nextest_config_elements.specs.declared.max_fail.TerminateMode.TheVariants as modes
 use Rattle.nextest_config_elements.specs.declared.retry_policy.Backoff.TheVariants as backoffs
 use Rattle.nextest_config_elements.specs.declared.slow_timeout.SlowTimeoutResult.TheVariants as slow_results
-use Rattle.nextest_config_profiles.specs.AbsentKeys.{TakesAllTold, TakesFor}
+use Rattle.nextest_config_profiles.specs.AbsentKeys.{TakesDefaults, TakesFor}
 use Rattle.nextest_config_profiles.proofs.Members.{is_key, key_itself}
 use Rattle.nextest_config_profiles.proofs.AbsentKeys.{lacks_or_has, of_table, passes_known, Related, takes_itself, takes_other_default, takes_other_optional, takes_other_required}
 use Rattle.nextest_config_profiles.proofs.TakesAlike.{Passes, Takes, takes_checked, takes_made, takes_only, takes_then}
@@ -157,7 +157,7 @@ jitter_taken = record {
       (word_reading retry.backoffs_in_order retry.backoff_word retry.backoff_reads_back)) backoff_jitter)).means_same;
 }
 
-pub retries_told : TakesAllTold retry.retry_policy_reading retry.open_fields
+pub retries_told : TakesDefaults retry.retry_policy_reading retry.open_fields
 retries_told = (needed _ _ _, (needed _ _ _, (value_told _ _ _ delay_taken, (value_told _ _ _ jitter_taken, (nothing_told _ _, tt)))))
 
 -- ---- fail-fast
@@ -169,7 +169,7 @@ terminate_taken = record {
       takes_made (fail.limit_of count) (takes_itself fail.terminate_key (string (codes "wait")) fail.terminate_reading modes.Wait refl)))).means_same;
 }
 
-pub fail_fast_told : TakesAllTold fail.fail_fast_reading fail.fail_fast_fields
+pub fail_fast_told : TakesDefaults fail.fail_fast_reading fail.fail_fast_fields
 fail_fast_told = (needed _ _ _, (value_told _ _ _ terminate_taken, tt))
 
 -- ---- slow-timeout
@@ -201,7 +201,7 @@ on_timeout_taken = record {
       (word_reading slow.slow_timeout_results slow.slow_timeout_word slow.slow_timeout_reads_back) slow_results.Fail refl)))))).means_same;
 }
 
-pub slow_timeout_told : TakesAllTold slow.slow_timeout_reading slow.slow_timeout_fields
+pub slow_timeout_told : TakesDefaults slow.slow_timeout_reading slow.slow_timeout_fields
 slow_timeout_told = (needed _ _ _, (nothing_told _ _, (value_told _ _ _ grace_period_taken, (value_told _ _ _ on_timeout_taken, tt))))
 
 -- ---- leak-timeout
@@ -214,5 +214,5 @@ result_taken = record {
       (word_reading leak.leak_timeout_results leak.leak_timeout_word leak.leak_timeout_reads_back) leak_results.Pass refl)))).means_same;
 }
 
-pub leak_timeout_told : TakesAllTold leak.leak_timeout_reading leak.leak_timeout_fields
+pub leak_timeout_told : TakesDefaults leak.leak_timeout_reading leak.leak_timeout_fields
 leak_timeout_told = (needed _ _ _, (value_told _ _ _ result_taken, tt))

@@ -1,5 +1,5 @@
 -- What profiles give, from what is laid over one another.
-use Rattle.std.proofs.Common.{ℕ, List, [], ◌∷◌, Option, Some, None, MatchOption, ap, inl, inr, refl}
+use Rattle.std.proofs.Common.{ℕ, List, [], ◌∷◌, Option, Some, None, MatchOption, inl, inr, refl}
 use Rattle.toml.specs.Data.{Data}
 use Rattle.nextest_config_values.specs.Read.{Reading}
 use Rattle.nextest_config_profiles.specs.Effective.{IsEffective, IsGiven, IsOf, IsRead, Passes}

@@ -4,7 +4,7 @@ use Rattle.std.proofs.lemmas.List.{map_push}
 use mathlib.Core.List.{map-append}
 use Rattle.std.specs.List.{AllByRecursion}
 use Rattle.std.specs.Prelude.{unwrap_or}
-use Rattle.toml.specs.Data.{array, boolean, Data, datetime, float, get_member, integer, member, no_members, string, table}
+use Rattle.toml.specs.Data.{Data, get_member, member, no_members, string, table}
 use Rattle.toml_spans.proofs.Elements.{all_left, all_right}
 use Rattle.nextest_config.proofs.Lists.{all_mapped}
 use Rattle.nextest_config_profiles.specs.Chain.{IsChain, IsNext, of_inherits}

@@ -6,7 +6,7 @@ use Rattle.std.specs.List.Sorted.{IsStrictlySortedBy}
 use Rattle.std.specs.Map.{keys_of}
 use Rattle.std.specs.String.{string_cmp}
 use Rattle.toml.proofs.Views.{Entry}
-use Rattle.toml.specs.Data.{Data, get_member, Members, no_members, table}
+use Rattle.toml.specs.Data.{Data, get_member, Members, table}
 use Rattle.toml.specs.View.{members_view, view}
 use Rattle.toml_spans.proofs.Elements.{all_joined, all_weaker}
 use Rattle.nextest_config_profiles.specs.Merged.{IsMergedOver, IsLeaf, Layers, leaf_of}

@@ -1,14 +1,14 @@
 -- Tables lie over one another key by key.
-use Rattle.std.proofs.Common.{◌≡◌, ℕ, false, List, [], ◌∷◌, ◌++◌, Option, Some, None, string_bytes, refl, sym, ap, ◌∙◌, rules, inl, inr}
+use Rattle.std.proofs.Common.{◌≡◌, ℕ, false, List, [], ◌∷◌, ◌++◌, Some, None, string_bytes, refl, sym, ap, ◌∙◌, rules, inl, inr}
 use Rattle.std.proofs.lemmas.Bool.{cases_Bool, false≢true}
 use Rattle.std.specs.List.Sorted.{IsStrictlySortedBy}
 use Rattle.std.specs.Map.{keys_of}
 use Rattle.std.specs.String.{string_cmp}
 use Rattle.toml.proofs.Views.{Entry}
-use Rattle.toml.specs.Data.{array, boolean, Data, datetime, float, get_member, integer, member, Members, no_members, string, table}
+use Rattle.toml.specs.Data.{Data, get_member, member, Members, no_members, table}
 use Rattle.toml.specs.View.{members_view, view}
 use Rattle.nextest_config_profiles.specs.Merging.{IsOver, over, Puts, seen, seen_at}
-use Rattle.nextest_config_profiles.specs.Said.{bare, barred, branch, leaf, Said, said_at, said_here, silent}
+use Rattle.nextest_config_profiles.specs.Said.{bare, branch, Said, said_at, said_here, silent}
 use Rattle.nextest_config_profiles.proofs.Members.{first_member, is_key, key_itself, last_member, not_before, one_key, other_last}
 
 pub over_silent : (said : Said) → over silent said ≡ seen said

@@ -1,6 +1,6 @@
 -- A layer that has one leaf alone says nothing of the paths apart from it.
 use Rattle.std.proofs.Common.{◌≡◌, ◌↔◌, ◌∙◌, ℕ, [], ◌∷◌, ◌++◌, Option, Some, None, ap, append-nil, refl, sym}
-use Rattle.toml.specs.Data.{array, boolean, Data, datetime, float, get_member, integer, member, no_members, string, table}
+use Rattle.toml.specs.Data.{Data, get_member, member, no_members, table}
 use Rattle.nextest_config_profiles.specs.Merged.{IsLeaf, Layers, leaf_of}
 use Rattle.nextest_config_profiles.specs.OneLeaf.{AreApart, HasLeafAlone}
 use Rattle.nextest_config_profiles.specs.Said.{bare, barred, branch, leaf, Path, Said, said_at, silent}

@@ -1,9 +1,9 @@
 -- What is wrong with a chain stands in a file: nextest's own document says of no profile what it inherits from.
 use Rattle.std.specs.Prelude.{codes, string_bytes}
-use Rattle.std.proofs.Common.{◌≡◌, ◌≢◌, ℕ, suc, Ordering, Less, Equal, Greater, List, [], ◌∷◌, ◌++◌, Some, None, nat_cmp, ap, refl, subst, sym, inl, inr}
+use Rattle.std.proofs.Common.{◌≡◌, ◌≢◌, ℕ, suc, Ordering, Equal, List, [], ◌∷◌, ◌++◌, Some, None, nat_cmp, ap, refl, subst, sym, inl, inr}
 use Rattle.std.specs.Cmp.Lexicographic.{slice_cmp}
 use Rattle.std.specs.Ordering.{match_ordering}
-use Rattle.toml.specs.Data.{array, boolean, Data, datetime, float, integer, member, no_members, string, table}
+use Rattle.toml.specs.Data.{Data, no_members, string, table}
 use Rattle.nextest_config_profiles.specs.Chain.{Inherits, InheritsNoText, IsNext, IsWay, of_inherits}
 use Rattle.nextest_config_profiles.specs.Defaults.{default_values}
 use Rattle.nextest_config_profiles.specs.Inherits.{HasPlace, IsPlacedFault}

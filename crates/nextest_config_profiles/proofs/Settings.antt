@@ -1,5 +1,5 @@
 -- The settings that the table of keys has.
-use Rattle.std.proofs.Common.{◌≡◌, ◌∙◌, ◌++◌, ◌∷◌, ◌&&◌, ◌||◌, ◌<◌, ◌+◌, ℕ, Bool, true, false, List, [], ap, append_assoc, drop, get_or, if◌then◌else◌, length, map, refl, sym}
+use Rattle.std.proofs.Common.{◌≡◌, ◌∙◌, ◌++◌, ◌∷◌, ◌&&◌, ◌||◌, ◌<◌, ◌+◌, ◌==◌, ℕ, Bool, true, false, List, [], ap, append-nil, append_assoc, arith, drop, eqb-true, get_or, if◌then◌else◌, length, map, refl, sym}
 use Rattle.std.proofs.lemmas.List.{drop_more}
 use Rattle.std.proofs.lemmas.List.Folds.{list_any-append}
 use Rattle.std.specs.List.{list_any}
@@ -27,6 +27,19 @@ one_table_more known i d all so_far whole inside within is_inside pushed are =
     ∙ append_assoc so_far more (settings_below (fields_view rest))
     ∙ ap (λ left. so_far ++ left) (sym (ap (λ left. settings_below (fields_view left)) (drop_more known i d within) ∙ ap settings_below (first_field next rest)))
     ∙ are
+
+-- a table without fields adds no settings
+no_settings : (above : Path) (so_far : List SettingRule) (known : List declared.Field) (none : Bool) → none ≡ (length known == 0) → none ≡ true
+    → so_far ≡ so_far ++ settings_at above (fields_view known)
+no_settings above so_far [] none is so = sym (append-nil so_far)
+no_settings above so_far (first ∷ known) none is so = absurd (omega (arith, eqb-true (length (first ∷ known)) 0 (sym is ∙ so)))
+
+-- those so far stay all that are there, where the next field is no table with fields
+pub no_table_more : (known : List declared.Field) (i : ℕ) (d : declared.Field) (so_far whole : List SettingRule) (inside : List declared.Field) (none : Bool) → i < length known
+    → fields_view inside ≡ table_fields (member_of (get_or known i d)).shape (parts_in (get_or known i d)) → none ≡ (length inside == 0) → none ≡ true
+    → so_far ++ settings_below (fields_view (drop i known)) ≡ whole → so_far ++ settings_below (fields_view (drop (i + 1) known)) ≡ whole
+no_table_more known i d so_far whole inside none within is_inside is so =
+    one_table_more known i d so_far so_far whole (fields_view inside) within is_inside (no_settings ((member_of (get_or known i d)).key ∷ []) so_far inside none is so)
 
 -- ---- whether something holds of the keys of a setting
 

@@ -3,17 +3,17 @@ use Rattle.std.specs.Prelude.{codes}
 use Rattle.std.proofs.Common.{◌≡◌, ℕ, ℤ, pos, negsuc, Bool, false, List, [], ◌∷◌, Option, Some, None, refl, rules}
 use Rattle.toml.specs.Data.{as_bool, as_integer, as_str}
 use Rattle.nextest_config_values.specs.Decisions.{IsDecided}
-use Rattle.nextest_config_values.specs.Duration.{duration_in, duration_reading}
+use Rattle.nextest_config_values.specs.Duration.{duration_reading}
 use Rattle.nextest_config_values.specs.Read.Fault.{duration_expected}
 use Rattle.nextest_config_values.specs.Read.Plain.{count_decided, u32_decided}
-use Rattle.nextest_config_values.specs.Read.{bool_reading, count_reading, in_range, IsCount, IsU32, jitter_without_delay, number_reading, rule_check, text_expected, text_reading, u32_reading, value_of, with_word, word_reading}
+use Rattle.nextest_config_values.specs.Read.{bool_reading, count_reading, in_range, IsCount, IsU32, jitter_without_delay, number_reading, rule_check, text_expected, text_reading, u32_reading, value_of, word_reading}
 use Rattle.nextest_config_elements.specs.LeakTimeout as leak
 use Rattle.nextest_config_elements.specs.MaxFail as fail
 use Rattle.nextest_config_elements.specs.MaxFail.FailFast.{mode_reads_back}
 use Rattle.nextest_config_elements.specs.RetryPolicy as retry
 use Rattle.nextest_config_elements.specs.SlowTimeout as slow
 use Rattle.nextest_config_elements.specs.UnknownKeysLaws.{keys_check}
-use Rattle.nextest_config_elements.specs.ThreadsRequired.{threads_expected, threads_in, threads_reading}
+use Rattle.nextest_config_elements.specs.ThreadsRequired.{threads_expected, threads_reading}
 use Rattle.nextest_config_elements.specs.declared.leak_timeout.LeakTimeoutResult.TheVariants as leak_results
 use Rattle.nextest_config_elements.specs.declared.max_fail.TerminateMode.TheVariants as modes
 use Rattle.nextest_config_elements.specs.declared.slow_timeout.SlowTimeoutResult.TheVariants as slow_results

@@ -2,13 +2,13 @@
 use Rattle.std.proofs.Common.{◌≡◌, ◌≢◌, ℕ, Bool, true, false, not, nat_eq, List, [], ◌∷◌, ◌++◌, Some, refl, sym, ap, subst, ◌∙◌, inl, inr}
 use Rattle.std.specs.Cmp.Lexicographic.{other_text, pointwise}
 use Rattle.std.specs.Prelude.{unwrap_or}
-use Rattle.toml.specs.Data.{array, as_str, boolean, Data, datetime, float, integer, string, table}
+use Rattle.toml.specs.Data.{as_str, Data, string}
 use Rattle.nextest_config_profiles.specs.Chain.{Asks, Inherits, InheritsNoText, IsChain, IsChainFault, IsNext, IsNextFault, IsWay, LeadsOn}
 use Rattle.nextest_config_profiles.specs.Merged.{Layers}
 use Rattle.nextest_config_profiles.specs.Profiles.{default_profile, IsProfile, SomeOf}
 use Rattle.nextest_config_profiles.specs.Said.{leaf, said_here}
 use Rattle.nextest_config_profiles.specs.declared.chain.ChainFault.{ChainFault}
-use Rattle.nextest_config_profiles.specs.declared.chain.ChainFault.TheVariants.{Memory, NoProfile, NotDefined, NotText, Ring}
+use Rattle.nextest_config_profiles.specs.declared.chain.ChainFault.TheVariants.{NotDefined, NotText}
 
 -- what a text says
 pub text_said : (value : Data) (text : List ℕ) → as_str value ≡ Some text → said_here value ≡ leaf (string text)

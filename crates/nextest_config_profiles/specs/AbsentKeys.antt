@@ -20,10 +20,10 @@ pub record TakesFor {X : Type 0} (reading : Reading Data X) (key : List ℕ) (va
         → reading.means (table lacking) x ↔ reading.means (table filled) x
 
 -- of a key that a table may lack, a value that is told as taken for it is what the reading takes
-abbrev pub TakesTold : {X : Type 0} → Reading Data X → KeyRule → Type 0
-TakesTold reading rule = rule.required ≡ false → (value : Data)
+abbrev pub TakesDefault : {X : Type 0} → Reading Data X → KeyRule → Type 0
+TakesDefault reading rule = rule.required ≡ false → (value : Data)
     → value_taken rule.absent ≡ Some value → TakesFor reading rule.key value
 
 -- what is told as taken for the keys that a table may lack is what the reading takes
-abbrev pub TakesAllTold : {X : Type 0} → Reading Data X → Fields → Type 0
-TakesAllTold reading known = AllByRecursion (TakesTold reading) (rules_in known)
+abbrev pub TakesDefaults : {X : Type 0} → Reading Data X → Fields → Type 0
+TakesDefaults reading known = AllByRecursion (TakesDefault reading) (rules_in known)

@@ -16,10 +16,10 @@ abbrev pub period_or_whole : Data → Option Data
 period_or_whole (table members) = get_member (codes "period") members
 period_or_whole value = Some value
 
--- below all files `default` has for a setting what the table of keys says is set there, if anything;
--- where it has a table, its `period` is that
-abbrev pub IsSetAsTold : SettingRule → Type 0
-IsSetAsTold setting =
+-- below all files `default` has for a setting what the table of keys says is set there, if
+-- anything; where it has a table, its `period` is that
+abbrev pub IsSetAsListed : SettingRule → Type 0
+IsSetAsListed setting =
     option_and_then period_or_whole
     (value_below (codes "profile" ∷ codes "default" ∷ setting.keys) (table default_values))
     ≡ value_inherited setting.rule.absent

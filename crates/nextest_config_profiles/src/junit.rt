@@ -54,19 +54,13 @@ impl EffectiveProfile<'_> {
     pub fn junit(&self, alloc: Global) -> Result<EffectiveJunit<'_>, AllocError>
         ensures { IfOk result (GetsJunit self.now) }
     {
-        let path = self.get(alloc, &JUNIT_PATH)?;
-        let report_name = self.get(alloc, &JUNIT_REPORT_NAME)?;
-        let store_success_output = self.get(alloc, &JUNIT_STORE_SUCCESS_OUTPUT)?;
-        let store_failure_output = self.get(alloc, &JUNIT_STORE_FAILURE_OUTPUT)?;
-        let report_skipped = self.get(alloc, &JUNIT_REPORT_SKIPPED)?;
-        let flaky_fail_status = self.get(alloc, &JUNIT_FLAKY_FAIL_STATUS)?;
         Ok(EffectiveJunit {
-            path,
-            report_name,
-            store_success_output,
-            store_failure_output,
-            report_skipped,
-            flaky_fail_status,
+            path: self.get(alloc, &JUNIT_PATH)?,
+            report_name: self.get(alloc, &JUNIT_REPORT_NAME)?,
+            store_success_output: self.get(alloc, &JUNIT_STORE_SUCCESS_OUTPUT)?,
+            store_failure_output: self.get(alloc, &JUNIT_STORE_FAILURE_OUTPUT)?,
+            report_skipped: self.get(alloc, &JUNIT_REPORT_SKIPPED)?,
+            flaky_fail_status: self.get(alloc, &JUNIT_FLAKY_FAIL_STATUS)?,
         })
     }
 }

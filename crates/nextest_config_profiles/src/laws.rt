@@ -8,13 +8,13 @@ ghost use Rattle.nextest_config_elements.specs.LeakTimeout.{leak_timeout_fields,
 ghost use Rattle.nextest_config_elements.specs.MaxFail.{fail_fast_fields, fail_fast_reading};
 ghost use Rattle.nextest_config_elements.specs.RetryPolicy.{open_fields, retry_policy_reading};
 ghost use Rattle.nextest_config_elements.specs.SlowTimeout.{slow_timeout_fields, slow_timeout_reading};
-ghost use Rattle.nextest_config_profiles.specs.AbsentKeys.{TakesAllTold};
+ghost use Rattle.nextest_config_profiles.specs.AbsentKeys.{TakesDefaults};
 ghost use Rattle.nextest_config_profiles.specs.Alike.{given_by, given_value, TakesAlike};
 ghost use Rattle.nextest_config_profiles.specs.Chain.{IsChain, IsWrong, Wrong};
 ghost use Rattle.nextest_config_profiles.specs.Effective.{IsEffective};
 ghost use Rattle.nextest_config_profiles.specs.Merged.{IsLeaf, Layers};
 ghost use Rattle.nextest_config_profiles.specs.OneLeaf.{AreApart, HasLeafAlone};
-ghost use Rattle.nextest_config_profiles.specs.OwnValues.{IsSetAsTold};
+ghost use Rattle.nextest_config_profiles.specs.OwnValues.{IsSetAsListed};
 ghost use Rattle.nextest_config_profiles.specs.Report.Setting.{all_settings};
 ghost use Rattle.nextest_config_profiles.specs.Said.{leaf, Path, said_at, silent};
 ghost use Rattle.nextest_config_profiles.specs.declared.effective.Effective.{Effective};
@@ -76,16 +76,16 @@ pub fn law_settings_take_alike()
 /// What is told as taken for a key that the table of a setting lacks is what its reader takes: the
 /// table means the same with this value put in. Of `retries` that holds under either backoff.
 pub fn law_absent_key_is_default()
-    ensures retries { TakesAllTold retry_policy_reading open_fields }
-    ensures fail_fast { TakesAllTold fail_fast_reading fail_fast_fields }
-    ensures slow_timeout { TakesAllTold slow_timeout_reading slow_timeout_fields }
-    ensures leak_timeout { TakesAllTold leak_timeout_reading leak_timeout_fields }
+    ensures retries { TakesDefaults retry_policy_reading open_fields }
+    ensures fail_fast { TakesDefaults fail_fast_reading fail_fast_fields }
+    ensures slow_timeout { TakesDefaults slow_timeout_reading slow_timeout_fields }
+    ensures leak_timeout { TakesDefaults leak_timeout_reading leak_timeout_fields }
 {}
 
 /// What nextest sets itself, below all files, has for each setting what the table of keys says is
 /// set there, if anything. Where it is a table, its `period` is that.
 pub fn law_defaults_as_told()
-    ensures { AllByRecursion IsSetAsTold all_settings }
+    ensures { AllByRecursion IsSetAsListed all_settings }
 {}
 
 /// Layers that say nothing of a path change nothing there. So what no file names is what nextest

@@ -91,8 +91,8 @@ pub(crate) fn reached_at<'v>(
     Ok(reached)
 }
 
-/// Whether a path below the one that leads there in layers leads to a value in any of them. Where it
-/// does in none, they come to none.
+/// Whether a path below the one that leads there in layers leads to a value in any of them. Where
+/// it does in none, they come to none.
 pub(crate) fn some_have(layers: &[Reach<'_>], path: &[&str]) -> bool
     ensures { result ≡ false → (all : Layers) (above : Path) → AreReached all above layers.now
         → HasNoValue all (above ++ words_of path.now) }

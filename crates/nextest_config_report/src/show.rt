@@ -171,7 +171,8 @@ fn known_value(alloc: Global, known: &BTreeSet<ConfigExperimental>) -> Result<Va
 {
     let mut words = Vec::new(alloc);
     for feature in known {
-        words.push(Value::try_from_str(alloc, feature.as_word())?)?;
+        let word = Value::try_from_str(alloc, feature.as_word())?;
+        words.push(word)?;
     }
     Ok(Value::Array(words))
 }
@@ -219,7 +220,8 @@ fn arrays_value(alloc: Global, arrays: ArraySources<'_>) -> Result<Value, AllocE
 {
     let mut sources = Vec::new(alloc);
     for source in arrays {
-        sources.push(Value::from(source.to_string(alloc)?))?;
+        let source = source.to_string(alloc)?;
+        sources.push(Value::from(source))?;
     }
     Ok(Value::Array(sources))
 }

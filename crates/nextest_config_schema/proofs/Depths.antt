@@ -13,10 +13,10 @@ use Rattle.nextest_config_schema.specs.Defaults.{default_data, default_or_none, 
 use Rattle.nextest_config_schema.specs.Fields.{AddsProperties, AreKinds, IsArray, IsNames, IsProperty, IsSchema, IsTable, wanted_keys}
 use Rattle.nextest_config_schema.specs.File.{IsFileSchema}
 use Rattle.nextest_config_schema.specs.Kinds.{may_be_empty, plain_kind, schema_with, word_kind}
-use Rattle.nextest_config_schema.specs.Place.{below}
+use Rattle.nextest_config_schema.specs.SchemaPlace.{below}
 use Rattle.nextest_config_schema.specs.Values.{any_of, array_schema, closed_table, having, one_of, with_required}
-use Rattle.nextest_config_schema.specs.declared.place.Place.{Place}
-use Rattle.nextest_config_schema.specs.declared.place.Place.TheVariants.{DefaultProfile, Elsewhere, File, Profiles, Retries}
+use Rattle.nextest_config_schema.specs.declared.schema_place.SchemaPlace.{SchemaPlace}
+use Rattle.nextest_config_schema.specs.declared.schema_place.SchemaPlace.TheVariants.{DefaultProfile, Elsewhere, File, Profiles, Retries}
 use Rattle.toml.specs.Data as toml
 
 -- ---- values
@@ -59,10 +59,10 @@ depth_of_any (kind ∷ next ∷ kinds) n p = omega arith
 depth_of_plain : (shape : Shape) → items_depth (items_of (option_to_list (plain_kind shape))) ≤ 2
 depth_of_plain shape = search rules
 
-depth_of_word : (place : Place) (shape : Shape) → items_depth (items_of (option_to_list (word_kind place shape))) ≤ 2
+depth_of_word : (place : SchemaPlace) (shape : Shape) → items_depth (items_of (option_to_list (word_kind place shape))) ≤ 2
 depth_of_word place shape = search (rules, depth_of_words)
 
-depth_of_schema : (place : Place) (shape : Shape) (kinds : List Data) (n : ℕ) → items_depth (items_of kinds) ≤ n → depth (schema_with place shape kinds) ≤ 4 + n
+depth_of_schema : (place : SchemaPlace) (shape : Shape) (kinds : List Data) (n : ℕ) → items_depth (items_of kinds) ≤ n → depth (schema_with place shape kinds) ≤ 4 + n
 depth_of_schema place shape kinds n p =
     let own = depth_of_both (option_to_list (plain_kind shape)) (option_to_list (word_kind place shape)) (2 + n) (omega (arith, depth_of_plain shape)) (omega (arith, depth_of_word place shape)) in
     omega (arith, depth_of_any _ (2 + n) (depth_of_both _ kinds (2 + n) own (omega arith)))
@@ -86,14 +86,14 @@ absent_depth (taken value) = optional_depth (option_map json_data value)
 absent_depth (inherited value) = optional_depth (option_map json_data value)
 absent_depth of_profile = 0
 
-depth_of_inherited : (place : Place) (value : Option toml.Data) → optional_depth (inherited_data place value) ≤ optional_depth (option_map json_data value)
+depth_of_inherited : (place : SchemaPlace) (value : Option toml.Data) → optional_depth (inherited_data place value) ≤ optional_depth (option_map json_data value)
 depth_of_inherited DefaultProfile value = omega arith
 depth_of_inherited File value = omega arith
 depth_of_inherited Profiles value = omega arith
 depth_of_inherited (Retries backoff) value = omega arith
 depth_of_inherited Elsewhere value = omega arith
 
-depth_of_default : (place : Place) (absent : Absent) (required : Bool) → optional_depth (default_or_none place absent required) ≤ absent_depth absent
+depth_of_default : (place : SchemaPlace) (absent : Absent) (required : Bool) → optional_depth (default_or_none place absent required) ≤ absent_depth absent
 depth_of_default place absent true = omega arith
 depth_of_default place (taken value) false = omega arith
 depth_of_default place (inherited value) false = depth_of_inherited place value
@@ -124,11 +124,11 @@ abbrev mutual
 
 -- what is said of the kinds that are made of these parts
 abbrev Bounds : Parts → Type 0
-Bounds parts = (place : Place) (shape : Shape) (kinds : List Data) → AreKinds parts place shape kinds → items_depth (items_of kinds) ≤ levels parts
+Bounds parts = (place : SchemaPlace) (shape : Shape) (kinds : List Data) → AreKinds parts place shape kinds → items_depth (items_of kinds) ≤ levels parts
 
 -- what is said of properties with those of these fields
 abbrev BoundsAdded : Fields → Type 0
-BoundsAdded known = (place : Place) (old new : Members) (n : ℕ) → members_depth old ≤ n → levels_of known ≤ n → AddsProperties known place old new → members_depth new ≤ n
+BoundsAdded known = (place : SchemaPlace) (old new : Members) (n : ℕ) → members_depth old ≤ n → levels_of known ≤ n → AddsProperties known place old new → members_depth new ≤ n
 
 depth_along : (schema same : Data) (n : ℕ) → schema ≡ same → depth same ≤ n → depth schema ≤ n
 depth_along schema same n is p = let P : Data → Type 0 = λ d. depth d ≤ n in subst P (sym is) p
@@ -139,22 +139,22 @@ depth_of_one kinds a n is p = let P : List Data → Type 0 = λ ks. items_depth 
 depth_of_two : (kinds : List Data) (a b : Data) (n : ℕ) → kinds ≡ a ∷ b ∷ [] → depth a ≤ n → depth b ≤ n → items_depth (items_of kinds) ≤ n
 depth_of_two kinds a b n is p q = let P : List Data → Type 0 = λ ks. items_depth (items_of ks) ≤ n in subst P (sym is) (omega arith)
 
-depth_of_value : (parts : Parts) → Bounds parts → (place : Place) (shape : Shape) (schema : Data) → IsSchema place shape parts schema → depth schema ≤ 4 + levels parts
+depth_of_value : (parts : Parts) → Bounds parts → (place : SchemaPlace) (shape : Shape) (schema : Data) → IsSchema place shape parts schema → depth schema ≤ 4 + levels parts
 depth_of_value parts bounds place shape schema (kinds, are, is) = depth_along schema _ _ is (depth_of_schema place shape kinds (levels parts) (bounds place shape kinds are))
 
-depth_of_property : (rule : KeyRule) (parts : Parts) → Bounds parts → (place : Place) (schema : Data) → IsProperty place rule parts schema → depth schema ≤ 4 + (levels parts + absent_depth rule.absent)
+depth_of_property : (rule : KeyRule) (parts : Parts) → Bounds parts → (place : SchemaPlace) (schema : Data) → IsProperty place rule parts schema → depth schema ≤ 4 + (levels parts + absent_depth rule.absent)
 depth_of_property rule parts bounds place schema (value, text, of_value, is) =
     let n = 4 + (levels parts + absent_depth rule.absent) in
     let own = depth_of_value parts bounds _ rule.shape value of_value in
     let stands = depth_of_default (below place rule.key) rule.absent rule.required in
     depth_along schema _ n is (depth_of_having _ (string text) _ n (omega arith) (depth_of_with_default (default_data (below place rule.key) rule) value n (omega (arith, stands)) (omega (arith, own))))
 
-depth_of_table : (known : Fields) → BoundsAdded known → (place : Place) (schema : Data) → IsTable place known schema → depth schema ≤ 2 + levels_of known
+depth_of_table : (known : Fields) → BoundsAdded known → (place : SchemaPlace) (schema : Data) → IsTable place known schema → depth schema ≤ 2 + levels_of known
 depth_of_table known bounds place schema (properties, adds, is) =
     let added = bounds place no_members properties (levels_of known) (omega arith) (omega arith) adds in
     depth_along schema _ _ is (depth_of_required (wanted_keys place known) (closed_table properties) _ (omega arith) (omega (arith, added)))
 
-depth_of_names : (parts : Parts) → Bounds parts → (place : Place) (each : Shape) (schema : Data) → IsNames place each parts schema → depth schema ≤ 6 + levels parts
+depth_of_names : (parts : Parts) → Bounds parts → (place : SchemaPlace) (each : Shape) (schema : Data) → IsNames place each parts schema → depth schema ≤ 6 + levels parts
 depth_of_names parts bounds Profiles each schema (default, others, default_is, others_is, is) =
     let a = depth_of_value parts bounds DefaultProfile each default default_is in
     let b = depth_of_value parts bounds Elsewhere each others others_is in

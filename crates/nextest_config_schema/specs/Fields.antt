@@ -1,5 +1,5 @@
--- The schemas of tables, by the table of keys (JSON Schema, draft-07). Of the descriptions nothing is
--- said, but that each property has one.
+-- The schemas of tables, by the table of keys (JSON Schema, draft-07). Of the descriptions nothing
+-- is said, but that each property has one.
 use Rattle.std.specs.Prelude.{◌≡◌, ℕ, true, if◌then◌else◌, List, [], ◌∷◌, ◌++◌, codes, map}
 use Rattle.serde_json.specs.Data.{Data, Members, no_members, put, string}
 use Rattle.nextest_config_elements.specs.Fields.{by_backoff, elements, elements_or_fields, features, field, field_words, Fields, fields, KeyRule, names, no_fields, nothing, Parts, versions}
@@ -7,19 +7,19 @@ use Rattle.nextest_config_elements.specs.declared.field.Shape.{Shape}
 use Rattle.nextest_config_elements.specs.declared.retry_policy.Backoff.TheVariants.{Exponential, Fixed}
 use Rattle.nextest_config_schema.specs.Defaults.{default_data, with_default}
 use Rattle.nextest_config_schema.specs.Kinds.{may_be_empty, schema_with}
-use Rattle.nextest_config_schema.specs.Place.{below, is_wanted}
+use Rattle.nextest_config_schema.specs.SchemaPlace.{below, is_wanted}
 use Rattle.nextest_config_schema.specs.Values.{array_schema, closed_table, having, names_schema, one_of, profiles_schema, with_required}
-use Rattle.nextest_config_schema.specs.declared.place.Place.{Place}
-use Rattle.nextest_config_schema.specs.declared.place.Place.TheVariants.{DefaultProfile, Elsewhere, Profiles, Retries}
+use Rattle.nextest_config_schema.specs.declared.schema_place.SchemaPlace.{SchemaPlace}
+use Rattle.nextest_config_schema.specs.declared.schema_place.SchemaPlace.TheVariants.{DefaultProfile, Elsewhere, Profiles, Retries}
 
 -- ---- the keys that a table has to have
 
 -- the key, if a table that stands here has to have it
-abbrev pub if_wanted : Place → KeyRule → List (List ℕ)
+abbrev pub if_wanted : SchemaPlace → KeyRule → List (List ℕ)
 if_wanted place rule = if is_wanted place rule then rule.key ∷ [] else []
 
 -- the keys that a table with these fields has to have, if it stands here
-abbrev pub wanted_keys : Place → Fields → List (List ℕ)
+abbrev pub wanted_keys : SchemaPlace → Fields → List (List ℕ)
 wanted_keys place no_fields = []
 wanted_keys place (field rule parts rest) = if_wanted place rule ++ wanted_keys place rest
 
@@ -27,11 +27,11 @@ wanted_keys place (field rule parts rest) = if_wanted place rule ++ wanted_keys 
 
 -- schemas of tables and arrays of a shape, at a place
 abbrev pub Kinds : Type 1
-Kinds = Place → Shape → List Data → Type 0
+Kinds = SchemaPlace → Shape → List Data → Type 0
 
 -- what properties become, where others are added
 abbrev pub Adding : Type 1
-Adding = Place → Members → Members → Type 0
+Adding = SchemaPlace → Members → Members → Type 0
 
 -- one schema
 abbrev pub IsOne : (Data → Type 0) → List Data → Type 0
@@ -42,19 +42,19 @@ abbrev pub AreTwo : (Data → Type 0) → (Data → Type 0) → List Data → Ty
 AreTwo first second kinds = (a : Data) × (b : Data) × first a × second b × (kinds ≡ a ∷ b ∷ [])
 
 -- the schema of a value of a shape, with such schemas of tables and arrays
-abbrev pub IsSchemaBy : Kinds → Place → Shape → Data → Type 0
+abbrev pub IsSchemaBy : Kinds → SchemaPlace → Shape → Data → Type 0
 IsSchemaBy kinds_by place shape schema = (kinds : List Data) × kinds_by place shape kinds
     × (schema ≡ schema_with place shape kinds)
 
 -- the schema of the value of a key, with some text that describes it
-abbrev pub IsPropertyBy : Kinds → Place → KeyRule → Data → Type 0
+abbrev pub IsPropertyBy : Kinds → SchemaPlace → KeyRule → Data → Type 0
 IsPropertyBy kinds_by place rule schema = let here = below place rule.key in
     (value : Data) × (text : List ℕ) × IsSchemaBy kinds_by here rule.shape value
     × (schema ≡ having (codes "description") (string text)
     (with_default (default_data here rule) value))
 
 -- the schema of a table with the properties that are added, and no others
-abbrev pub IsTableBy : Adding → Place → Fields → Data → Type 0
+abbrev pub IsTableBy : Adding → SchemaPlace → Fields → Data → Type 0
 IsTableBy adding place known schema = (properties : Members)
     × adding place no_members properties
     × (schema ≡ with_required (map string (wanted_keys place known)) (closed_table properties))
@@ -66,7 +66,7 @@ IsArrayBy kinds_by shape each schema = (items : Data)
     × (schema ≡ array_schema (may_be_empty shape) items)
 
 -- the schema of a table whose keys are names, with what their values have to be
-abbrev pub IsNamesBy : Kinds → Place → Shape → Data → Type 0
+abbrev pub IsNamesBy : Kinds → SchemaPlace → Shape → Data → Type 0
 IsNamesBy kinds_by Profiles each schema = (default : Data) × (others : Data)
     × IsSchemaBy kinds_by DefaultProfile each default
     × IsSchemaBy kinds_by Elsewhere each others
@@ -106,15 +106,15 @@ abbrev mutual
   AddsProperties (field rule parts rest) = AddsBy (AreKinds parts) rule (AddsProperties rest)
 
 -- the schema of a value of a shape, with what stands in it
-abbrev pub IsSchema : Place → Shape → Parts → Data → Type 0
+abbrev pub IsSchema : SchemaPlace → Shape → Parts → Data → Type 0
 IsSchema place shape parts = IsSchemaBy (AreKinds parts) place shape
 
 -- the schema of the value of a key
-abbrev pub IsProperty : Place → KeyRule → Parts → Data → Type 0
+abbrev pub IsProperty : SchemaPlace → KeyRule → Parts → Data → Type 0
 IsProperty place rule parts = IsPropertyBy (AreKinds parts) place rule
 
 -- the schema of a table with these fields
-abbrev pub IsTable : Place → Fields → Data → Type 0
+abbrev pub IsTable : SchemaPlace → Fields → Data → Type 0
 IsTable place known = IsTableBy (AddsProperties known) place known
 
 -- the schema of an array of a shape, with what its elements have to be
@@ -122,5 +122,5 @@ abbrev pub IsArray : Shape → Shape → Parts → Data → Type 0
 IsArray shape each parts = IsArrayBy (AreKinds parts) shape each
 
 -- the schema of a table whose keys are names, with what their values have to be
-abbrev pub IsNames : Place → Shape → Parts → Data → Type 0
+abbrev pub IsNames : SchemaPlace → Shape → Parts → Data → Type 0
 IsNames place each parts = IsNamesBy (AreKinds parts) place each

@@ -8,7 +8,7 @@ use Rattle.serde_json.specs.Written.{IsInOrder}
 use Rattle.nextest_config_elements.specs.Keys.{file_fields}
 use Rattle.nextest_config_schema.specs.Fields.{IsTable}
 use Rattle.nextest_config_schema.specs.Values.{having}
-use Rattle.nextest_config_schema.specs.declared.place.Place.TheVariants.{File}
+use Rattle.nextest_config_schema.specs.declared.schema_place.SchemaPlace.TheVariants.{File}
 
 -- the draft that the schema follows
 abbrev pub draft : List ℕ

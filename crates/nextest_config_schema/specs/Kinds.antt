@@ -1,5 +1,5 @@
--- What a value of a shape may be, but for what stands in it: its texts, numbers and booleans, and its
--- words.
+-- What a value of a shape may be, but for what stands in it: its texts, numbers and booleans, and
+-- its words.
 use Rattle.std.specs.Prelude.{ℕ, pos, negsuc, Bool, true, false, List, [], ◌∷◌, ◌++◌, codes, map, option_to_list, Option, Some, None}
 use Rattle.serde_json.specs.Data.{Data}
 use Rattle.nextest_config_elements.specs.Junit.{flaky_fail_statuses, flaky_fail_word}
@@ -15,8 +15,8 @@ use Rattle.nextest_config_elements.specs.declared.max_fail.TerminateMode.TheVari
 use Rattle.nextest_config_elements.specs.declared.word_list.WordList.{WordList}
 use Rattle.nextest_config_schema.specs.Patterns.{duration_pattern, path_pattern, version_pattern}
 use Rattle.nextest_config_schema.specs.Values.{any_of, anything, at_least, between, matching, nonzero, of_type, one_of, scalar, some_text}
-use Rattle.nextest_config_schema.specs.declared.place.Place.{Place}
-use Rattle.nextest_config_schema.specs.declared.place.Place.TheVariants.{Retries}
+use Rattle.nextest_config_schema.specs.declared.schema_place.SchemaPlace.{SchemaPlace}
+use Rattle.nextest_config_schema.specs.declared.schema_place.SchemaPlace.TheVariants.{Retries}
 
 -- the texts, numbers or booleans of a shape, but for its words (nextest's configuration reference)
 abbrev pub plain_kind : Shape → Option Data
@@ -52,7 +52,7 @@ plain_kind shapes.Threads = Some nonzero
 plain_kind shape = None
 
 -- the words of backoffs: in a table of retries with a backoff its own alone
-abbrev pub backoff_words : Place → List (List ℕ)
+abbrev pub backoff_words : SchemaPlace → List (List ℕ)
 backoff_words (Retries backoff) = backoff_word backoff ∷ []
 backoff_words place = map backoff_word backoffs_in_order
 
@@ -61,7 +61,7 @@ abbrev pub list_words : WordList → List (List ℕ)
 list_words list = listed_words list ++ unlisted_words list
 
 -- the words of a shape
-abbrev pub word_kind : Place → Shape → Option Data
+abbrev pub word_kind : SchemaPlace → Shape → Option Data
 word_kind place shapes.SlowTimeout = Some (one_of (codes "" ∷ []))
 word_kind place shapes.MaxFail = Some (one_of (codes "all" ∷ []))
 word_kind place shapes.ThreadsRequired =
@@ -82,7 +82,7 @@ word_kind place (shapes.Word list) = Some (one_of (list_words list))
 word_kind place shape = None
 
 -- a value of a shape, with the schemas of the tables and arrays that it may be
-abbrev pub schema_with : Place → Shape → List Data → Data
+abbrev pub schema_with : SchemaPlace → Shape → List Data → Data
 schema_with place shape kinds =
     any_of (option_to_list (plain_kind shape) ++ option_to_list (word_kind place shape) ++ kinds)
 

@@ -1,4 +1,4 @@
-pub mod Place
+pub mod SchemaPlace
 pub mod Patterns
 pub mod Values
 pub mod Kinds

@@ -1,5 +1,5 @@
--- Schemas of values in which nothing stands that a schema speaks of, and how schemas are joined (JSON
--- Schema, draft-07).
+-- Schemas of values in which nothing stands that a schema speaks of, and how schemas are joined
+-- (JSON Schema, draft-07).
 use Rattle.std.specs.Prelude.{ℕ, ℤ, pos, Bool, true, false, List, [], ◌∷◌, codes, map}
 use Rattle.serde_json.specs.Data.{array, boolean, Data, member, Members, no_members, number, object, put, string, unsigned}
 use Rattle.serde_json.specs.Find.{of_integer}

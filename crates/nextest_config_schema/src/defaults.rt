@@ -7,7 +7,7 @@ ghost use Rattle.nextest_config_elements.specs.Fields.{literal_of, rule_of};
 ghost use Rattle.nextest_config_elements.specs.declared.field.Field.{out-Field};
 ghost use Rattle.nextest_config_schema.specs.Defaults.{default_data, inherited_data, with_default};
 
-use crate::place::Place;
+use crate::schema_place::SchemaPlace;
 use crate::values::having;
 use nextest_config_elements::field::{Absent, Field, Literal};
 use serde_json::Value;
@@ -16,7 +16,7 @@ use std::alloc::{AllocError, Global};
 /// The schema of a field's value, with what stands for it at a place where it is absent.
 pub(crate) fn with_default(
     alloc: Global,
-    place: Place,
+    place: SchemaPlace,
     field: &Field,
     schema: Value,
 ) -> Result<Value, AllocError>
@@ -30,7 +30,11 @@ pub(crate) fn with_default(
 }
 
 // What stands for a field's value at a place where it is absent, if that is a value.
-fn default_value(alloc: Global, place: Place, field: &Field) -> Result<Option<Value>, AllocError>
+fn default_value(
+    alloc: Global,
+    place: SchemaPlace,
+    field: &Field,
+) -> Result<Option<Value>, AllocError>
     ensures { IfOk result (λ value. option_map view value
         ≡ default_data place (rule_of (out-Field field.now))) }
 {
@@ -47,14 +51,14 @@ fn default_value(alloc: Global, place: Place, field: &Field) -> Result<Option<Va
 // What a place inherits from nextest itself: elsewhere another profile may say otherwise.
 fn inherited_value(
     alloc: Global,
-    place: Place,
+    place: SchemaPlace,
     literal: Literal,
 ) -> Result<Option<Value>, AllocError>
     ensures { IfOk result (λ value. option_map view value
         ≡ inherited_data place (literal_of literal)) }
 {
     match place {
-        Place::DefaultProfile => literal_value(alloc, literal),
+        SchemaPlace::DefaultProfile => literal_value(alloc, literal),
         _ => Ok(None),
     }
 }

@@ -9,7 +9,7 @@ ghost use Rattle.nextest_config_schema.specs.Fields.{AddsProperties, AreKinds, i
 
 use crate::defaults::with_default;
 use crate::kinds::{may_be_empty, schema_with};
-use crate::place::Place;
+use crate::schema_place::SchemaPlace;
 use crate::values::{
     array_schema, closed_table, enum_of, names_schema, one, profiles_schema, saying, two,
     with_required,
@@ -21,7 +21,11 @@ use std::alloc::{AllocError, Global};
 
 /// The schema of a table with these fields, at a place.
 #[cycle(schema)]
-pub(crate) fn table(alloc: Global, place: Place, fields: &[Field]) -> Result<Value, AllocError>
+pub(crate) fn table(
+    alloc: Global,
+    place: SchemaPlace,
+    fields: &[Field],
+) -> Result<Value, AllocError>
     ensures { IfOk result (λ schema. IsTable place (fields_view fields.now) (view schema)) }
 {
     let schema = closed_table(alloc, properties(alloc, place, fields)?)?;
@@ -32,7 +36,7 @@ pub(crate) fn table(alloc: Global, place: Place, fields: &[Field]) -> Result<Val
 #[cycle(schema)]
 fn properties(
     alloc: Global,
-    place: Place,
+    place: SchemaPlace,
     fields: &[Field],
 ) -> Result<Map<String, Value>, AllocError>
     ensures { IfOk result (λ properties. AddsProperties (fields_view fields.now) place
@@ -49,7 +53,7 @@ fn properties(
 // The schema of the value of a field, with what the field is for, and what stands for the value
 // where it is absent.
 #[cycle(schema)]
-fn property(alloc: Global, place: Place, field: &Field) -> Result<Value, AllocError>
+fn property(alloc: Global, place: SchemaPlace, field: &Field) -> Result<Value, AllocError>
     ensures { let known = out-Field field.now in
         IfOk result (λ schema. IsProperty place (rule_of known) (parts_of known.parts)
         (view schema)) }
@@ -63,7 +67,12 @@ fn property(alloc: Global, place: Place, field: &Field) -> Result<Value, AllocEr
 
 // The schema of a value of a shape, with what stands in it.
 #[cycle(schema)]
-fn schema_of(alloc: Global, place: Place, shape: Shape, parts: &Parts) -> Result<Value, AllocError>
+fn schema_of(
+    alloc: Global,
+    place: SchemaPlace,
+    shape: Shape,
+    parts: &Parts,
+) -> Result<Value, AllocError>
     ensures { IfOk result (λ schema. IsSchema place shape (parts_of parts.now) (view schema)) }
 {
     let kinds = kinds_by_parts(alloc, place, shape, parts)?;
@@ -75,7 +84,7 @@ fn schema_of(alloc: Global, place: Place, shape: Shape, parts: &Parts) -> Result
 #[cycle(schema)]
 fn kinds_by_parts(
     alloc: Global,
-    place: Place,
+    place: SchemaPlace,
     shape: Shape,
     parts: &Parts,
 ) -> Result<Vec<Value>, AllocError>
@@ -97,14 +106,15 @@ fn kinds_by_parts(
             exponential,
             ..
         } => {
-            let fixed = table(alloc, Place::Retries(Backoff::Fixed), fixed)?;
-            let exponential = table(alloc, Place::Retries(Backoff::Exponential), exponential)?;
+            let fixed = table(alloc, SchemaPlace::Retries(Backoff::Fixed), fixed)?;
+            let place = SchemaPlace::Retries(Backoff::Exponential);
+            let exponential = table(alloc, place, exponential)?;
             two(alloc, fixed, exponential)
         }
         Parts::Names(each, parts) => one(alloc, names(alloc, place, *each, parts)?),
         Parts::Elements(each, parts) => one(alloc, array(alloc, shape, *each, parts)?),
         Parts::ElementsOrFields(each, fields) => {
-            let items = schema_with(alloc, Place::Elsewhere, *each, Vec::new(alloc))?;
+            let items = schema_with(alloc, SchemaPlace::Elsewhere, *each, Vec::new(alloc))?;
             let array = array_schema(alloc, may_be_empty(shape), items)?;
             two(alloc, array, table(alloc, place, fields)?)
         }
@@ -116,19 +126,19 @@ fn kinds_by_parts(
 fn array(alloc: Global, shape: Shape, each: Shape, parts: &Parts) -> Result<Value, AllocError>
     ensures { IfOk result (λ schema. IsArray shape each (parts_of parts.now) (view schema)) }
 {
-    let items = schema_of(alloc, Place::Elsewhere, each, parts)?;
+    let items = schema_of(alloc, SchemaPlace::Elsewhere, each, parts)?;
     array_schema(alloc, may_be_empty(shape), items)
 }
 
 // The schema of a table whose keys are names. Of profiles `default` has its own.
 #[cycle(schema)]
-fn names(alloc: Global, place: Place, each: Shape, parts: &Parts) -> Result<Value, AllocError>
+fn names(alloc: Global, place: SchemaPlace, each: Shape, parts: &Parts) -> Result<Value, AllocError>
     ensures { IfOk result (λ schema. IsNames place each (parts_of parts.now) (view schema)) }
 {
-    let others = schema_of(alloc, Place::Elsewhere, each, parts)?;
+    let others = schema_of(alloc, SchemaPlace::Elsewhere, each, parts)?;
     match place {
-        Place::Profiles => {
-            let default = schema_of(alloc, Place::DefaultProfile, each, parts)?;
+        SchemaPlace::Profiles => {
+            let default = schema_of(alloc, SchemaPlace::DefaultProfile, each, parts)?;
             profiles_schema(alloc, default, others)
         }
         _ => names_schema(alloc, others),
@@ -136,7 +146,11 @@ fn names(alloc: Global, place: Place, each: Shape, parts: &Parts) -> Result<Valu
 }
 
 // The keys that a table with these fields has to have, at a place.
-fn wanted_keys(alloc: Global, place: Place, fields: &[Field]) -> Result<Vec<Value>, AllocError>
+fn wanted_keys(
+    alloc: Global,
+    place: SchemaPlace,
+    fields: &[Field],
+) -> Result<Vec<Value>, AllocError>
     ensures { IfOk result (λ keys. map view keys.items
         ≡ map string (wanted_keys place (fields_view fields.now))) }
 {
@@ -150,7 +164,7 @@ fn wanted_keys(alloc: Global, place: Place, fields: &[Field]) -> Result<Vec<Valu
 // Adds the key of a field, if a table at a place has to have it.
 fn push_if_wanted(
     alloc: Global,
-    place: Place,
+    place: SchemaPlace,
     field: &Field,
     keys: &mut Vec<Value>,
 ) -> Result<(), AllocError>

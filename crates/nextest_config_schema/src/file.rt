@@ -5,7 +5,7 @@ ghost use Rattle.serde_json.specs.View.{view};
 ghost use Rattle.nextest_config_schema.specs.File.{IsFileSchema, IsFileSchemaText};
 
 use crate::fields::table;
-use crate::place::Place;
+use crate::schema_place::SchemaPlace;
 use crate::values::saying;
 use nextest_config_elements::keys::file_fields;
 use serde_json::Value;
@@ -24,7 +24,7 @@ files of tools, and values of other kinds that nextest may convert.";
 pub fn schema(alloc: Global) -> Result<Value, AllocError>
     ensures { IfOk result (λ schema. IsFileSchema (view schema)) }
 {
-    let schema = table(alloc, Place::File, file_fields())?;
+    let schema = table(alloc, SchemaPlace::File, file_fields())?;
     let schema = saying(alloc, "title", TITLE, schema)?;
     let schema = saying(alloc, "$comment", COMMENT, schema)?;
     let schema = saying(alloc, "$schema", DRAFT, schema)?;

@@ -7,7 +7,7 @@ ghost use Rattle.nextest_config_schema.specs.Patterns.{duration_pattern};
 ghost use Rattle.nextest_config_schema.specs.Values.{matching, one_of};
 
 use crate::patterns::{DURATION, RELATIVE_PATH, VERSION};
-use crate::place::Place;
+use crate::schema_place::SchemaPlace;
 use crate::values::{
     any_of, anything, at_least, between, enum_of, matching, nonzero, of_type, one_of, push_some,
     push_words, scalar, some_text,
@@ -27,7 +27,7 @@ use std::alloc::{AllocError, Global};
 /// The schema of a value of a shape, with those of the tables and arrays that it may be.
 pub(crate) fn schema_with(
     alloc: Global,
-    place: Place,
+    place: SchemaPlace,
     shape: Shape,
     mut kinds: Vec<Value>,
 ) -> Result<Value, AllocError>
@@ -78,7 +78,7 @@ fn duration(alloc: Global) -> Result<Value, AllocError>
 }
 
 // The schema of the words of a shape.
-fn word_kind(alloc: Global, place: Place, shape: Shape) -> Result<Option<Value>, AllocError>
+fn word_kind(alloc: Global, place: SchemaPlace, shape: Shape) -> Result<Option<Value>, AllocError>
     ensures { IfOk result (λ kind. option_map view kind ≡ word_kind place shape) }
 {
     let schema = match shape {
@@ -101,11 +101,11 @@ fn word_kind(alloc: Global, place: Place, shape: Shape) -> Result<Option<Value>,
 }
 
 // The schema of the words of backoffs: in a table of retries with a backoff its own alone.
-fn backoff_words(alloc: Global, place: Place) -> Result<Value, AllocError>
+fn backoff_words(alloc: Global, place: SchemaPlace) -> Result<Value, AllocError>
     ensures { IfOk result (λ schema. view schema ≡ one_of (backoff_words place)) }
 {
     match place {
-        Place::Retries(backoff) => one_of(alloc, &[backoff.as_word()]),
+        SchemaPlace::Retries(backoff) => one_of(alloc, &[backoff.as_word()]),
         _ => one_of(alloc, Backoff::words()),
     }
 }

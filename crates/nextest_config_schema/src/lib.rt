@@ -6,7 +6,7 @@ mod fields;
 mod file;
 mod kinds;
 mod patterns;
-mod place;
+mod schema_place;
 mod values;
 
 pub use file::{schema, schema_text};

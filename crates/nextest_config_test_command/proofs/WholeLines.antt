@@ -22,8 +22,8 @@ module _ (holds : PathStates) (request : Request) (number : ℕ) (unwritten gone
     read = served.read;
     answer = served.answer;
     done = served.done;
+    noticed = inl (whole_line unsaid said says _ never served.noticed);
     number_is = served.number_is;
     written = served.written;
-    noticed = inl (whole_line unsaid said says _ never served.noticed);
   })
   done_or_says_why (inr (three, cut)) = let (kept, why) = says_why cut in inr (three, kept, why)

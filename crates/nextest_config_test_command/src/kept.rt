@@ -39,8 +39,8 @@ impl Stream for KeptStream {
     }
 }
 
-/// Does what is asked for over files and streams in memory. Where no call of these has failed, all of
-/// it is told; or status 3 comes with the whole line that says why, and nothing written.
+/// Does what is asked for over files and streams in memory. Where no call of these has failed, all
+/// of it is told; or status 3 comes with the whole line that says why, and nothing written.
 pub fn serve_kept(
     alloc: Global,
     request: &Request,

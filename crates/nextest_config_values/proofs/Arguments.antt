@@ -70,6 +70,4 @@ one_argument_or_fault = record { meaning_or_fault = argument_or_fault; one_meani
 -- the fault of the name in front of the first colon
 pub bad_name : (text name path : List ℕ) (told : Option (NameFault ToolNameFlaw)) (of_memory : Type 0) (error : ToolConfigFileParseError)
     → IsCutAtColon text name path → FaultOrMemory told of_memory (IsToolNameFault name) → RefusesTool text told error → RefusesArgument (IsArgumentFault text) error
-bad_name text name path (Some fault) of_memory error cut refused bad =
-    fault_mapped (argument_fault error) bad (λ memory. memory) (λ f same. inr (name, path, cut, inl (fault, refused, same)))
-bad_name text name path None of_memory error cut refused bad = rw bad refl
+bad_name text name path told of_memory error cut refused bad = search rules

@@ -48,14 +48,7 @@ trimmed text rest u e = rw (← chars_from_encodes (skip_leading_whitespace (cha
 module _ {text digits behind gap after word rest : List ℕ} where
   next_of : text ≡ digits ++ behind → IsRun is_ascii_digit digits behind → IsTrimmed behind gap after → after ≡ word ++ rest
       → IsRun is_in_word word rest → IsNext text digits gap word rest
-  next_of whole of_digits trim cut of_word =
-      let parts : behind ≡ gap ++ (word ++ rest) = trim.whole ∙ ap (λ r. gap ++ r) cut in
-      record {
-        whole = whole ∙ ap (λ r. digits ++ r) parts;
-        of_digits = subst (IsRun is_ascii_digit digits) parts of_digits;
-        of_gap = subst (IsRun is_whitespace gap) cut trim.run;
-        of_word = of_word;
-      }
+  next_of whole of_digits trim cut of_word = search rules
 
 -- ---- the digits of a number
 
@@ -256,14 +249,7 @@ module _ (text : List ℕ) (nanoseconds : ℕ) (a : IsReadUpTo (chars text) [] n
   sum_fault large = (a.front, [], a.items, longest_front (chars text) a.front [] a.items a.is_front nothing_stops, (a.some refl, λ fits. large (omega (arith, a.sum, fits))))
 
   pub whole_duration : FitsDuration nanoseconds → IsDuration text nanoseconds
-  whole_duration fits = record {
-    items = a.items;
-    some = a.some refl;
-    spelled = rw (a.is_front.whole, append-nil a.front) a.is_front.spelled;
-    fit = a.is_front.fit;
-    sum = omega (arith, a.sum, fits);
-    sum_fits = fits;
-  }
+  whole_duration fits = search rules
 
 -- where what is left begins
 pub place_left : (text left : List ℕ) (nanoseconds : ℕ) (a : IsReadUpTo (chars text) (chars left) nanoseconds) → IsUtf8 text → IsUtf8 left → length text - length left ≡ offset a.front

@@ -35,18 +35,13 @@ same_rule (broken.RequiredAboveRecommended required recommended) (broken.Require
 same_rule a b = search rules
 
 one_told : {F G : Type 0} (reason : F → G) → ((a b : F) → reason a ≡ reason b → a ≡ b) → (told other : Option F) → option_map reason told ≡ option_map reason other → told ≡ other
-one_told reason one None None e = refl
-one_told reason one (Some a) (Some b) e = ap Some (one a b (cc e))
-one_told reason one told other e = cc e
+one_told reason one told other e = search rules
 
 -- of a name's fault
 told_alike : {F : Type 0} (make : F → Reason) → ((a b : F) → make a ≡ make b → a ≡ b) → (told other : Option F) (IsSame : Type 0)
     → IsSame ↔ (told ≡ other) → (reason : Reason) → option_map make told ≡ Some reason
     → IsSame ↔ (option_map make other ≡ Some reason)
-told_alike make one told other IsSame alike reason is = (
-  λ same. ap (option_map make) (sym (alike.0 same)) ∙ is,
-  λ e. alike.1 (one_told make one told other (is ∙ sym e)),
-)
+told_alike make one told other IsSame alike reason is = search rules
 
 same_text : IsEqualityBy {X = String Global} string_bytes string_eq
 same_text a b = search rules
@@ -97,46 +92,43 @@ same_kind (kinds.ToolName error) (kinds.ToolName other) reason is =
 same_kind kinds.Memory b reason is = cc is
 same_kind a b reason is = search rules
 
-fault_parts : (path : List ℕ) (told : Option Reason) (fault : ReadFaultView) → option_map (read_fault_with path) told ≡ Some fault → (told ≡ Some fault.reason) × (path ≡ fault.path)
-fault_parts path None fault e = cc e
-fault_parts path (Some reason) fault e =
-    let same : read_fault_with path reason ≡ fault = cc e in
-    (ap (λ (f : ReadFaultView). Some f.reason) same, ap (λ (f : ReadFaultView). f.path) same)
+-- of a fault at a place: of what it is told in, and where
+module _ {A C F : Type 0} (make : A → C → F) (at : F → A) (what : F → C) (apart : (a : A) (c : C) (f : F) → make a c ≡ f → (c ≡ what f) × (a ≡ at f)) where
+  parts_told : (a : A) (told : Option C) (fault : F) → option_map (make a) told ≡ Some fault → (told ≡ Some (what fault)) × (a ≡ at fault)
+  parts_told a None fault is = cc is
+  parts_told a (Some c) fault is = let (same, place) = apart a c fault (cc is) in (ap Some same, place)
+
+  alike_at : (p k : Bool) (a b : A) (told other : Option C) (fault : F) → option_map (make a) told ≡ Some fault → IsTrue p ↔ (a ≡ b)
+      → (told ≡ Some (what fault) → IsTrue k ↔ (other ≡ Some (what fault))) → IsTrue (p && k) ↔ (option_map (make b) other ≡ Some fault)
+  alike_at p k a b told other fault is places kinds =
+      let (cause, place) = parts_told a told fault is in
+      let kind = kinds cause in (
+        λ same.
+            let (s, t) = and_parts p k same in
+            rw (kind.0 t) (ap (λ (x : A). Some (make x (what fault))) (sym (places.0 s)) ∙ rw cause at is),
+        λ other_told.
+            let (r, q) = parts_told b other fault other_told in
+            and_from p k (places.1 (place ∙ sym q)) (kind.1 r),
+      )
 
 pub same_fault : IsEqualityOfTold read_fault_view (fault_eq.ghosts).eq
 same_fault a b fault is =
-    let (reason, path) = fault_parts (string_bytes a.path) (reason_of a.kind) fault is in
-    let kind = same_kind a.kind b.kind fault.reason reason in
-    let paths = same_text a.path b.path in (
-      λ same.
-          let (p, k) = and_parts _ _ same in
-          rw (kind.0 k) (ap (λ (at : List ℕ). Some (read_fault_with at fault.reason)) (sym (paths.0 p) ∙ path)),
-      λ told.
-          let (r, q) = fault_parts (string_bytes b.path) (reason_of b.kind) fault told in
-          and_from _ _ (paths.1 (path ∙ sym q)) (kind.1 r),
-    )
+    alike_at read_fault_with (λ f. f.path) (λ f. f.reason) (λ at reason f e. (ap (λ (g : ReadFaultView). g.reason) e, ap (λ (g : ReadFaultView). g.path) e))
+    _ _ (string_bytes a.path) (string_bytes b.path) (reason_of a.kind) (reason_of b.kind) fault is (same_text a.path b.path) (same_kind a.kind b.kind fault.reason)
 
 -- ---- of values
 
 pub same_step : IsEqualityBy step_of (step_eq.ghosts).eq
-same_step (steps.Key text) (steps.Key other) =
-    let texts = same_text text other in
-    (λ same. ap key (texts.0 same), λ e. texts.1 (cc e))
 same_step a b = search rules
 
 -- of what a told fault is told in
 alike_within : {F G : Type 0} (make : F → G) → ((a b : F) → make a ≡ make b → a ≡ b) → (told other : Option F) (IsSame : Type 0)
     → ((f : F) → told ≡ Some f → IsSame ↔ (other ≡ Some f)) → (whole : G) → option_map make told ≡ Some whole
     → IsSame ↔ (option_map make other ≡ Some whole)
-alike_within make one None other IsSame alike whole is = cc is
-alike_within make one (Some f) other IsSame alike whole is = (
-  λ same. ap (option_map make) ((alike f refl).0 same) ∙ is,
-  λ e. (alike f refl).1 (one_told make one other (Some f) (e ∙ sym is)),
-)
+alike_within make one told other IsSame alike whole is = search rules
 
 one_reason : (told : Option Reason) (cause : Cause) → option_map for_reason told ≡ Some cause → (reason : Reason) × (cause ≡ for_reason reason)
-one_reason None cause is = cc is
-one_reason (Some reason) cause is = (reason, cc is)
+one_reason told cause is = search rules
 
 pub same_cause : IsEqualityOfTold cause_of (cause_eq.ghosts).eq
 same_cause (causes.NoDuration found) (causes.NoDuration other) cause is =
@@ -153,21 +145,8 @@ same_cause (causes.NoDuration found) (causes.Kind other) cause is = (λ same. cc
 same_cause (causes.Missing name) (causes.Kind other) cause is = (λ same. cc same, λ e. let one = one_reason (reason_of other) cause e in cc (is, one.1))
 same_cause a b cause is = search rules
 
-value_parts : (steps : List PathStep) (told : Option Cause) (fault : Fault) → option_map (fault_with steps) told ≡ Some fault → (told ≡ Some fault.cause) × (steps ≡ fault.steps)
-value_parts steps None fault e = cc e
-value_parts steps (Some cause) fault e =
-    let same : fault_with steps cause ≡ fault = cc e in
-    (ap (λ (f : Fault). Some f.cause) same, ap (λ (f : Fault). f.steps) same)
-
 pub same_value_fault : IsEqualityOfTold fault_of (value_eq.ghosts).eq
 same_value_fault a b fault is =
-    let (cause, steps) = value_parts (map step_of a.steps.items) (cause_of a.cause) fault is in
-    let causes = same_cause a.cause b.cause fault.cause cause in
-    let both = same_each step_of (step_eq.ghosts).eq same_step a.steps.items b.steps.items in (
-      λ same.
-          let (s, k) = and_parts _ _ same in
-          rw (causes.0 k) (ap (λ (at : List PathStep). Some (fault_with at fault.cause)) (sym (both.0 s) ∙ steps)),
-      λ told.
-          let (r, q) = value_parts (map step_of b.steps.items) (cause_of b.cause) fault told in
-          and_from _ _ (both.1 (steps ∙ sym q)) (causes.1 r),
-    )
+    alike_at fault_with (λ f. f.steps) (λ f. f.cause) (λ at cause f e. (ap (λ (g : Fault). g.cause) e, ap (λ (g : Fault). g.steps) e))
+    _ _ (map step_of a.steps.items) (map step_of b.steps.items) (cause_of a.cause) (cause_of b.cause) fault is
+    (same_each step_of (step_eq.ghosts).eq same_step a.steps.items b.steps.items) (same_cause a.cause b.cause fault.cause)

@@ -30,14 +30,11 @@ refused_memory IsFault fault memory wanted = rw memory (refl, wanted)
 -- a refusal that `?` passes on
 pub passed_on : {T E : Type 0} (IsPassed : E → Type 0) (result : Result T E) (fault : E) → IsErrAnd result (λ passed. passed ≡ fault)
     → IsPassed fault → IfErr result IsPassed
-passed_on IsPassed result fault err refused =
-    let passed = err_from_is_err_and result err in
-    rw (passed.1, passed.2) refused
+passed_on IsPassed result fault err refused = search rules
 
 -- a refusal that says this of each one says it of one
 pub refused_for : {D T E : Type 0} (IsPassed : D → E → Type 0) (result : Result T E) → IfErr result (λ e. (d : D) → IsPassed d e) → (d : D) → IfErr result (IsPassed d)
-refused_for IsPassed (Ok t) refused d = refused
-refused_for IsPassed (Err e) refused d = refused d
+refused_for IsPassed result refused d = search rules
 
 -- ---- of a reading
 
@@ -54,33 +51,23 @@ module _ {D X : Type 0} (reading : Reading D X) (value : D) where
   pub wanted_of : (fault : ValueFault) → RefusesBy reading value fault → reading.takes_memory value ⊎ ((x : X) → ¬ reading.means value x)
   wanted_of fault refused = by_told (fault_of fault) refused.told where
     by_told : (told : Option Fault) → FaultOrMemory told (IsMemory fault × (reading.takes_memory value ⊎ ((x : X) → ¬ reading.means value x))) (reading.faults value) → reading.takes_memory value ⊎ ((x : X) → ¬ reading.means value x)
-    by_told (Some f) faulty = inr (λ x meant. reading.law.never_both value x f meant faulty)
-    by_told None memory = memory.1
+    by_told told faulty = search rules
 
   -- a value that means something, and whose result takes no memory, is read
   pub read_whole : {T : Type 0} (result : Result T ValueFault) → IfErr result (RefusesBy reading value) → (x : X) → reading.means value x → ¬ reading.takes_memory value → IsOk result
-  read_whole (Ok t) refused x meant free = refl
-  read_whole (Err fault) refused x meant free = absurd (⊎_elim free (λ nothing. nothing x meant) (wanted_of fault refused))
+  read_whole result refused x meant free = search rules
 
   -- what is told of the refusal at a path
   pub refused_at : (at : List ℕ) (fault : ValueFault) (told : ReadFault) → RefusesBy reading value fault → (IsMemory fault → TellsMemory told)
       → IfSome (fault_of fault) (λ f. TellsAs (read_fault_at at f) told) → RefusesAt reading value at told
-  refused_at at fault told refused memory tells = by_fault (fault_of fault) refused.told tells where
-    by_fault : (known : Option Fault) → FaultOrMemory known (IsMemory fault × (reading.takes_memory value ⊎ ((x : X) → ¬ reading.means value x))) (reading.faults value)
-        → IfSome known (λ f. TellsAs (read_fault_at at f) told) → RefusesAt reading value at told
-    by_fault (Some f) faulty tells =
-        fault_mapped (read_fault_view told) tells (λ no_memory. (no_memory, inr (λ x meant. reading.law.never_both value x f meant faulty)))
-        (λ t same. (f, faulty, same))
-    by_fault None without tells = let no_memory = memory without.0 in rw no_memory.1 ((no_memory.0, refl), without.1)
+  refused_at at fault told refused memory tells = search rules
 
   -- what is told of the refusal at a path, where `map_err` tells it
   pub refused_where : {Y : Type 0} {tells : ValueFault → ReadFault → Type 0} (at : List ℕ) (read : Result Y ValueFault) (told : Result Y ReadFault) → IfErr read (RefusesBy reading value)
       → MatchResult read (λ x. told ≡ Ok x) (λ fault. IsErrAnd told (tells fault))
       → ((fault : ValueFault) (t : ReadFault) → tells fault t → (IsMemory fault → TellsMemory t) × IfSome (fault_of fault) (λ f. TellsAs (read_fault_at at f) t))
       → IfErr told (RefusesAt reading value at)
-  refused_where at (Ok x) told refused is_told tells = rw is_told tt
-  refused_where at (Err fault) (Ok x) refused is_told tells = absurd is_told
-  refused_where at (Err fault) (Err t) refused is_told tells = let told = tells fault t is_told in refused_at at fault t refused told.0 told.1
+  refused_where at read told refused is_told tells = search rules
 
 -- ---- of readings that are put together
 
@@ -91,9 +78,7 @@ module _ {D E X : Type 0} (step : PathStep) (reading : Reading E X) (part : E) (
   refused_below below fault refused memory tells = by_fault (fault_of below) refused.told tells where
     by_fault : (known : Option Fault) → FaultOrMemory known (IsMemory below × (reading.takes_memory part ⊎ ((x : X) → ¬ reading.means part x))) (reading.faults part)
         → IfSome known (λ f. RefusesAs (fault_below step f) fault) → RefusesBy (inner_at step reading part) value fault
-    by_fault (Some f) faulty tells = refused_by (inner_at step reading part) value (fault_below step f) fault (f, faulty, refl) tells
-    by_fault None without tells =
-        record { told = refused_memory ((inner_at step reading part).faults value) fault (memory without.0) without.1 }
+    by_fault known faulty tells = search rules
 
 module _ {X Y : Type 0} {means : X → Type 0} {IsFault : Fault → Type 0} {T : Type 0} {fault : ValueFault} where
   -- of one that says more of the value

@@ -1,5 +1,5 @@
 -- Values that are written, item by item and member by member.
-use Rattle.std.proofs.Common.{◌≡◌, ◌∙◌, ℕ, ◌<◌, ◌+◌, ◌==◌, false, List, [], ◌∷◌, ◌++◌, length, take, get_or, codes, map-id, string_bytes, refl, sym, ap}
+use Rattle.std.proofs.Common.{◌≡◌, ◌∙◌, ℕ, ◌<◌, ◌+◌, ◌==◌, false, List, [], ◌∷◌, ◌++◌, length, take, get_or, codes, map-id, string_bytes, refl, sym, ap, rules}
 use Rattle.std.proofs.lemmas.Bool.{true≢false}
 use Rattle.std.proofs.lemmas.List.{take_more}
 use Rattle.std.proofs.Output.{has_written_append, has_written_of_eq}
@@ -31,12 +31,10 @@ one_more_member (first ∷ rest) entry texts text are one =
 
 -- what stands before the next item, and before the next member
 pub separator_of_items : (values : List Value) (texts : List (List ℕ)) → AreItems (items_view values) texts → separator_after values ≡ separator_after texts
-separator_of_items [] texts none = sym (ap separator_after none)
-separator_of_items (value ∷ values) texts are = sym (ap separator_after are.2)
+separator_of_items values texts none = search rules
 
 pub separator_of_members : (entries : List Entry) (texts : List (List ℕ)) → AreMembers (members_view entries) texts → separator_after entries ≡ separator_after texts
-separator_of_members [] texts none = sym (ap separator_after none)
-separator_of_members (entry ∷ entries) texts are = sym (ap separator_after are.2)
+separator_of_members entries texts none = search rules
 
 -- members that there are stand between braces with blanks
 pub table_of : (entries : List Entry) (texts : List (List ℕ)) → (length entries == 0) ≡ false → AreMembers (members_view entries) texts

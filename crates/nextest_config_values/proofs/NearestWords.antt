@@ -1,5 +1,5 @@
 -- The nearest word so far, word by word.
-use Rattle.std.proofs.Common.{◌≡◌, ℕ, suc, ◌<◌, ◌≤◌, Bool, true, false, inl, inr, List, [], ◌∷◌, ◌++◌, length, min, ◌+◌, drop, get_or, take, Option, Some, None, refl, sym, ap, ◌∙◌, ⊎_elim, append_assoc, arith}
+use Rattle.std.proofs.Common.{◌≡◌, ℕ, suc, ◌<◌, ◌≤◌, Bool, true, false, inl, inr, List, [], ◌∷◌, ◌++◌, length, min, ◌+◌, drop, get_or, take, Option, Some, None, refl, sym, ap, ◌∙◌, ⊎_elim, append_assoc, arith, rules}
 use Rattle.std.specs.Prelude.{chars}
 use denote.Ref.{Bor}
 use Rattle.std.proofs.lemmas.Bool.{cases_Bool, cases_lt}
@@ -30,12 +30,7 @@ unlike name word none = ⊎_elim (λ same. absurd (none (inl same))) (λ other. 
 
 -- a word that isn't near is farther than one that is
 farther : (name word other : List ℕ) → IsNear name word → ¬ IsNear name other → farness name word < farness name other
-farther name word other (inl same) none = omega (arith, far_same name word same, far_other name other (unlike name other none))
-farther name word other (inr edits) none =
-    let far = far_other name other (unlike name other none) in
-    ⊎_elim (λ less. omega (arith, less, far_at_most name word, far))
-    (λ more. absurd (none (inr (record { few = omega (arith, edits.few, more); below_length = omega (arith, edits.below_length, more) }))))
-    (cases_lt (distance name word) (distance name other))
+farther name word other h3 none = search rules
 
 -- ---- what was found so far
 
@@ -60,19 +55,11 @@ all_farther name word words (Some best) nearest near less =
     (less, all_weaker (λ other. farness name best ≤ farness name other) (λ other. farness name word < farness name other) (λ other more. omega (arith, less, more)) nearest.after nearest.none_nearer))
 
 few_below : (name word best : List ℕ) → IsNear name best → farness name word ≡ suc (distance name word) → farness name word < farness name best → IsFewEdits name word
-few_below name word best (inl same) far less = absurd (omega (arith, far_same name best same, less))
-few_below name word best (inr edits) far less =
-    let most = far_at_most name best in
-    record { few = omega (arith, edits.few, most, far, less); below_length = omega (arith, edits.below_length, most, far, less) }
+few_below name word best h3 far less = search rules
 
 -- a nearer word is near
 near_below : (name word : List ℕ) (words : List (List ℕ)) (found : Option (List ℕ)) → IsNearest words name found → farness name word < limit_of name found → IsNear name word
-near_below name word words None none less =
-    ⊎_elim (λ same. inl same)
-    (λ other. let far = far_other name word other in inr (record { few = omega (arith, clamps, far, less); below_length = omega (arith, clamps, far, less) }))
-    (cases_Bool (is_same name word))
-near_below name word words (Some best) nearest less =
-    ⊎_elim (λ same. inl same) (λ other. inr (few_below name word best nearest.near (far_other name word other) less)) (cases_Bool (is_same name word))
+near_below name word words found none less = search rules
 
 -- a nearer word is the nearest so far
 pub nearer : {words : List (List ℕ)} {name : List ℕ} {found : Option (List ℕ)} {limit : ℕ} (word : List ℕ) → IsSoFar words name found limit → is_same name word ≡ false → distance name word < limit
@@ -169,9 +156,7 @@ module _ (alike : ℕ → ℕ → Bool) where
   lists_alike (x ∷ xs) (y ∷ ys) long h = rw (h.0, lists_alike xs ys (omega (arith, long)) h.1) refl
 
   one_answer : (a b : Bool) → (a ≡ true → b ≡ true) → (b ≡ true → a ≡ true) → a ≡ b
-  one_answer true b f g = sym (f refl)
-  one_answer false true f g = g refl
-  one_answer false false f g = refl
+  one_answer a b f g = search rules
 
   -- two lists of one length are alike where all their pairs are
   pub alike_by_pairs : (xs ys : List ℕ) (r : Bool) → length xs ≡ length ys

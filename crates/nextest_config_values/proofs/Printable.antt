@@ -1,5 +1,5 @@
 -- Characters that are shown as they are, and that what is shown is printable.
-use Rattle.std.proofs.Common.{◌≡◌, ℕ, ◌<◌, ◌≤◌, ◌+◌, ◌/◌, ◌%◌, ◌==◌, ◌&&◌, ◌||◌, nat_le, nat_lt, zero, suc, Bool, true, false, cond, List, [], ◌∷◌, ◌++◌, codes, flat_map, ap, arith, refl, subst, sym}
+use Rattle.std.proofs.Common.{◌≡◌, ℕ, ◌<◌, ◌≤◌, ◌+◌, ◌/◌, ◌%◌, ◌==◌, ◌&&◌, ◌||◌, nat_le, nat_lt, zero, suc, Bool, true, false, cond, List, [], ◌∷◌, ◌++◌, codes, flat_map, ap, arith, refl, subst, sym, rules}
 use Rattle.std.proofs.lemmas.Bool.{true≢false}
 use Rattle.std.proofs.lemmas.Bool.Decides.{nat_tests}
 use Rattle.std.proofs.lemmas.List.{append-nil}
@@ -8,20 +8,19 @@ use Rattle.std.proofs.lemmas.Str.{chars-IsAscii, encode_ascii}
 use Rattle.std.specs.Char.{digit_char, is_control}
 use Rattle.std.specs.Char.Escape.{escape_unicode}
 use Rattle.std.specs.List.{AllByRecursion, list_all, slice_index}
-use Rattle.std.specs.Prelude.{chars, encode_utf8}
+use Rattle.std.specs.Prelude.{chars, encode_utf8, None, Option, Some, unwrap_or}
 use Rattle.nextest_config_values.specs.Literal.Shown.{character_in, IsPrintable, IsPrintableCharacter, is_plain, is_printable, is_unprintable, shown_character, shown_in, shown_lines, shown_text}
 use Rattle.nextest_config_values.specs.declared.literal.shown.LineFeeds.TheVariants.{Kept}
+use Rattle.toml_spans.specs.QuotedText.{by_code}
 use Rattle.toml_spans.proofs.Elements.{all_joined}
 
 or_true : (b : Bool) → (b || true) ≡ true
-or_true true = refl
-or_true false = refl
+or_true b = search rules
 
 -- ---- printable characters of ASCII
 
 pub both_are : (a b : Bool) → (a && b) ≡ true → (a ≡ true) × (b ≡ true)
-both_are true b is = (refl, is)
-both_are false b is = absurd (true≢false (sym is))
+both_are a b is = search rules
 
 pub bounds : (c : ℕ) → is_printable c ≡ true → (32 ≤ c) × (c ≤ 126)
 bounds c is = let both = both_are (nat_le 32 c) (nat_le c 126) is in (grind (arith, nat_tests), grind (arith, nat_tests))
@@ -39,8 +38,7 @@ not_blank : (c : ℕ) → c ≤ 126 → (c == 8203) ≡ false
 not_blank c high = grind (arith, nat_tests)
 
 is_shown : (c : ℕ) → 32 ≤ c → c ≤ 126 → is_unprintable c ≡ false
-is_shown c low high =
-    rw (no_control c low high, not_blank c high, below_others 8206 c (search arith) high, below_others 8232 c (search arith) high, below_others 8294 c (search arith) high) refl
+is_shown c low high = search rules
 
 pub shown_itself : (c : ℕ) → is_printable c ≡ true → shown_character c ≡ c ∷ []
 shown_itself c is =
@@ -86,15 +84,13 @@ plain_lines text is = sym (text_stays (character_in Kept) is_plain (λ c plain. 
 -- ---- what is shown is printable
 
 digit : (d : ℕ) (below : Bool) → nat_lt d 10 ≡ below → d < 16 → IsPrintableCharacter (cond below (48 + d) (87 + d))
-digit d true is within = printable (48 + d) (omega arith) (omega (arith, within))
-digit d false is within = printable (87 + d) (omega arith) (omega (arith, within))
+digit d below is within = search rules
 
 hexadecimal : (m : ℕ) → IsPrintableCharacter (digit_char (m % 16))
 hexadecimal m = digit (m % 16) (nat_lt (m % 16) 10) refl (omega arith)
 
 either : (b : Bool) (xs ys : List ℕ) → AllByRecursion IsPrintableCharacter xs → AllByRecursion IsPrintableCharacter ys → AllByRecursion IsPrintableCharacter (cond b xs ys)
-either true xs ys x y = x
-either false xs ys x y = y
+either b xs ys x y = search rules
 
 escaped : (c : ℕ) → AllByRecursion IsPrintableCharacter (escape_unicode c)
 escaped c =
@@ -105,24 +101,30 @@ escaped c =
     (either (nat_lt c 0x10_0000) _ _ (refl, (refl, (refl, (hexadecimal (c / 0x1_0000), (hexadecimal (c / 0x1000), (hexadecimal (c / 0x100), (hexadecimal (c / 0x10), (hexadecimal (c / 0x1), (refl, tt)))))))))
     (refl, (refl, (refl, (hexadecimal (c / 0x10_0000), (hexadecimal (c / 0x1_0000), (hexadecimal (c / 0x1000), (hexadecimal (c / 0x100), (hexadecimal (c / 0x10), (hexadecimal (c / 0x1), (refl, tt))))))))))))))
 
-by_code : (c : ℕ) (unprintable : Bool) → is_unprintable c ≡ unprintable → IsPrintable (cond unprintable (flat_map encode_utf8 (escape_unicode c)) (encode_utf8 c))
-by_code c true is = record { characters = escape_unicode c; written = refl; printable = escaped c }
-by_code c false is = record { characters = c ∷ []; written = sym (append-nil _); printable = (rw is (or_true (c == 10)), tt) }
-
 ascii : (bytes : List ℕ) → flat_map encode_utf8 bytes ≡ bytes → AllByRecursion IsPrintableCharacter bytes → IsPrintable bytes
 ascii bytes written all = record { characters = bytes; written = sym written; printable = all }
 
 chosen : (b : Bool) (xs ys : List ℕ) → IsPrintable xs → IsPrintable ys → IsPrintable (cond b xs ys)
-chosen true xs ys x y = x
-chosen false xs ys x y = y
+chosen b xs ys x y = search rules
+
+coded : (c : ℕ) → IsPrintable (by_code c)
+unfolding lib.Utf8.encode
+coded c = chosen (c == 0) _ _ (ascii (codes "\\0") refl (refl, (refl, tt))) (record { characters = escape_unicode c; written = refl; printable = escaped c })
+
+unless_hidden : (c : ℕ) (hidden : Bool) → is_unprintable c ≡ hidden → IsPrintable (cond hidden (by_code c) (encode_utf8 c))
+unless_hidden c true is = coded c
+unless_hidden c false is = record { characters = c ∷ []; written = sym (append-nil _); printable = (rw is (or_true (c == 10)), tt) }
+
+-- an escape, where there is one
+or_else : (b : Bool) (escape : List ℕ) (escapes : Option (List ℕ)) (other : List ℕ) → IsPrintable escape → IsPrintable (unwrap_or escapes other) → IsPrintable (unwrap_or (cond b (Some escape) escapes) other)
+or_else b escape escapes other one rest = search rules
 
 character : (c : ℕ) → IsPrintable (shown_character c)
 unfolding lib.Utf8.encode
 character c =
-    chosen (c == 10) _ _ (ascii (codes "\\n") refl (refl, (refl, tt)))
-    (chosen (c == 13) _ _ (ascii (codes "\\r") refl (refl, (refl, tt)))
-    (chosen (c == 9) _ _ (ascii (codes "\\t") refl (refl, (refl, tt)))
-    (chosen (c == 0) _ _ (ascii (codes "\\0") refl (refl, (refl, tt))) (by_code c (is_unprintable c) refl))))
+    or_else (c == 10) _ _ _ (ascii (codes "\\n") refl (refl, (refl, tt)))
+    (or_else (c == 13) _ _ _ (ascii (codes "\\r") refl (refl, (refl, tt)))
+    (or_else (c == 9) _ None _ (ascii (codes "\\t") refl (refl, (refl, tt))) (unless_hidden c (is_unprintable c) refl)))
 
 in_lines : (c : ℕ) → IsPrintable (character_in Kept c)
 unfolding lib.Utf8.encode

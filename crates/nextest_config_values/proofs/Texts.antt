@@ -1,5 +1,5 @@
 -- Texts by their bytes and by their characters: what they begin with, and their cut at the first colon.
-use Rattle.std.proofs.Common.{◌≡◌, ◌≢◌, ℕ, ◌+◌, ◌<◌, Bool, true, false, List, [], ◌∷◌, ◌++◌, length, drop, get_or, codes, Option, Some, None, refl, sym, ap, ◌∙◌, subst, arith, lit<}
+use Rattle.std.proofs.Common.{◌≡◌, ◌≢◌, ℕ, ◌+◌, ◌<◌, Bool, true, false, List, [], ◌∷◌, ◌++◌, length, drop, get_or, codes, Option, Some, None, refl, sym, ap, ◌∙◌, subst, arith, lit<, rules}
 use Rattle.std.specs.Prelude.{MatchOption, MatchBool, IsUtf8, chars, encode_utf8, encode_utf8_all}
 use Rattle.std.specs.Borrow.{Bor}
 use Rattle.std.specs.List.{AllByRecursion}
@@ -27,8 +27,7 @@ strip_text p s (Some x) h = (rw h.2 h.1.1, λ u. rw (h.2, h.1.0) (IsUtf8-drop s 
 -- the clause of `starts_with` at a text
 pub starts_text_or_not : (p s : List ℕ) (r : Bool) → MatchBool r (HasPrefixMatch (FindsTextPrefix p) s) (FindsTextPrefix p s None)
     → MatchBool r ((rest : List ℕ) × (s ≡ p ++ rest)) ((rest : List ℕ) → s ≢ p ++ rest)
-starts_text_or_not p s true h = (drop h.0 s, h.1.1)
-starts_text_or_not p s false h = λ rest e. h rest e
+starts_text_or_not p s r h = search rules
 
 -- a text that its bytes and its characters write alike
 pub record IsPlainText (p : List ℕ) : Type 0 where

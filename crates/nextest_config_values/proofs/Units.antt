@@ -62,8 +62,7 @@ module _ (kind : ℕ → Bool) (table : List (List ℕ × ℕ)) where
   by_no_first word other none = ap (λ rows. length_in rows word) (sym none) ∙ by_rows (λ name. not (first_is kind name)) table word (begins word other)
     where
       begins : (word : List ℕ) → ((b : ℕ) → Some b ≡ slice_get word 0 → kind b ≡ false) → not (first_is kind word) ≡ true
-      begins [] other = refl
-      begins (b ∷ word) other = rw (other b refl) refl
+      begins word other = search rules
 
 module _ (table : List (List ℕ × ℕ)) (word : List ℕ) where
   -- a word of one byte is sought among those

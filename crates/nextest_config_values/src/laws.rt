@@ -75,8 +75,8 @@ pub fn law_same_normal_form()
         × SameAnswers (IsToolNameFault s) (IsToolNameFault t) }
 {}
 
-/// No text is spelled by two lists of items, wherever white space stands; a text is one duration and
-/// has no fault as one, or it is none and has one fault.
+/// No text is spelled by two lists of items, wherever white space stands; a text is one duration
+/// and has no fault as one, or it is none and has one fault.
 #[tactic(auto, using(crate::specs::Duration::Laws::one_spelling, crate::specs::Duration::Fronts::one_duration_or_fault))]
 pub fn law_duration_once()
     ensures one_spelling { (text : List ℕ) (items others : List Item)

@@ -1,5 +1,5 @@
-//! How values of TOML are written on one line, what stands for them in JSON, and how texts are shown
-//! to people.
+//! How values of TOML are written on one line, what stands for them in JSON, and how texts are
+//! shown to people.
 
 mod json;
 mod key;

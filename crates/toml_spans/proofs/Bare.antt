@@ -1,5 +1,5 @@
 -- Bare keys.
-use Rattle.std.proofs.Common.{◌≡◌, ℕ, ◌<◌, false, List, [], ◌∷◌, None, Some, refl, inl, inr, arith}
+use Rattle.std.proofs.Common.{◌≡◌, ℕ, ◌<◌, false, List, [], ◌∷◌, None, Some, refl, inl, inr, arith, rules}
 use Rattle.std.proofs.lemmas.Bool.{cases_Bool}
 use Rattle.std.specs.List.{prefix_len}
 use Rattle.toml_parser.specs.Lexical.{is_bare, split_while}
@@ -18,9 +18,4 @@ bare_none (c ∷ text) begins none =
 -- a run of such bytes is a key
 pub bare_some : (text : List ℕ) → starts_string text ≡ false → 0 < prefix_len is_bare text → simple_key text ≡ Some (split_while is_bare text)
 unfolding simple_key
-bare_some [] begins some = absurd (omega (arith, some))
-bare_some (c ∷ text) begins some =
-    elim (cases_Bool (is_bare c)) [
-      | inl is ↦ rw (begins, is) refl
-      | inr other ↦ absurd (omega (arith, rw other at some))
-    ]
+bare_some text begins some = search rules

@@ -1,5 +1,5 @@
 -- What holds of a result, where there is one.
-use Rattle.std.proofs.Common.{◌≡◌, Bool, true, false, cond, Option, Some, None, option_and_then, option_map, refl, subst}
+use Rattle.std.proofs.Common.{◌≡◌, Bool, true, false, cond, Option, Some, None, option_and_then, option_map, refl, subst, rules}
 use Rattle.std.proofs.lemmas.Option.{none-some, same_Some}
 
 -- of what the result is, where there is one
@@ -17,8 +17,16 @@ module _ {A : Type 0} {Q : A → Type 0} where
 
   -- one of two, by a test
   pub found_if : {o p : Option A} (b : Bool) → Found o Q → Found p Q → Found (cond b o p) Q
-  found_if true one other = one
-  found_if false one other = other
+  found_if b one other = search rules
+
+  -- and by one whose answer is told
+  pub found_test : {o p : Option A} (b : Bool) → (b ≡ true → Found o Q) → (b ≡ false → Found p Q) → Found (cond b o p) Q
+  found_test b one other = search rules
+
+  -- where more is asked of a result
+  pub found_same : {B : Type 0} {o : Option B} (f : B → Option A) → ((x : B) → o ≡ Some x → Found (f x) Q) → Found (option_and_then f o) Q
+  found_same {o = None} f on = found_none
+  found_same {o = Some x} f on = on x refl
 
   -- a limit that is weaker
   pub found_weaker : {o : Option A} {P : A → Type 0} → Found o P → ((x : A) → P x → Q x) → Found o Q
@@ -37,7 +45,3 @@ module _ {A : Type 0} {Q : A → Type 0} where
   -- whatever the result is
   pub found_any : {o : Option A} → ((x : A) → o ≡ Some x → Q x) → Found o Q
   found_any each = record { each = each }
-
-  -- two facts at once
-  pub found_both : {o : Option A} {P : A → Type 0} → Found o P → Found o Q → Found o (λ x. P x × Q x)
-  found_both one other = record { each = λ x is. (one.each x is, other.each x is) }

@@ -6,6 +6,7 @@ pub mod Elements
 pub mod Found
 pub mod Lookups
 pub mod Order
+pub mod Pieces
 pub mod Places
 pub mod Promised
 pub mod Quotes

@@ -1,9 +1,8 @@
 -- What is found in entries, beside what is found in their trees.
-use Rattle.std.proofs.Common.{◌≡◌, ℕ, zero, suc, ◌-◌, ◌<◌, ◌≤◌, List, [], ◌∷◌, drop, get_or, length, map, take, take_all, Option, Some, None, option_and_then, option_map, Bor, refl, ap, ◌∙◌, arith}
-use Rattle.std.proofs.lemmas.Option.{none-some, same_Some}
+use Rattle.std.proofs.Common.{◌≡◌, ℕ, zero, suc, ◌-◌, ◌<◌, ◌≤◌, List, [], ◌∷◌, drop, get_or, length, map, take, take_all, Option, Some, None, option_and_then, option_map, Bor, refl, ap, ◌∙◌, arith, rules}
 use Rattle.std.specs.BTreeMap.{is_at}
 use Rattle.std.specs.Map.{lookup}
-use Rattle.toml_spans.specs.Entry.{get_branch, get_tree, Pieces, pieces_of, push_tree, Tree}
+use Rattle.toml_spans.specs.Entry.{Piece as Spot, get_branch, get_tree, Pieces, pieces_of, push_tree, Tree}
 use Rattle.toml_spans.specs.EntryViews.{pairs_of, piece_of, tree_of, trees_from}
 use Rattle.toml_spans.specs.Ranges.{range_of}
 use Rattle.toml_spans.specs.Step.{step_of}
@@ -21,12 +20,9 @@ steps_front (x ∷ steps) step d some same =
     rw (same, all) refl
 
 -- an entry at a key
-seen_of : (r : Option (Bor Entry)) → option_map (λ x. tree_of x.now) r ≡ option_map tree_of (option_map (λ x. x.now) r)
-seen_of None = refl
-seen_of (Some x) = refl
-
 pub entry_get : (r : Option (Bor Entry)) (k : List ℕ) (es : List Pair) → option_map (λ x. x.now) r ≡ lookup (is_at (at_text k)) es → option_map (λ x. tree_of x.now) r ≡ get_branch k (pairs_of es)
-entry_get r k es found = seen_of r ∙ ap (option_map tree_of) found ∙ tree_of-lookup k es
+entry_get None k es found = ap (option_map tree_of) found ∙ tree_of-lookup k es
+entry_get (Some x) k es found = ap (option_map tree_of) found ∙ tree_of-lookup k es
 
 -- an element at an index
 pub element_within : (es : List Entry) (i : ℕ) (d : Entry) → i < length es → get_tree i (trees_from (map tree_of es)) ≡ Some (tree_of (get_or es i d))
@@ -54,14 +50,9 @@ pushed_else (e ∷ es) t zero other = refl
 pushed_else (e ∷ es) t (suc i) other = pushed_else es t i (λ is. other (ap suc is))
 
 -- the ranges of what a path leads to
-pub range_of_key : (o : Option Tree) (p : Pieces) (bytes : ℕ) → option_map pieces_of o ≡ Some p → option_and_then (λ t. option_map (range_of bytes) (pieces_of t).of_key) o ≡ option_map (range_of bytes) p.of_key
-range_of_key None p bytes is = absurd (none-some p is)
-range_of_key (Some t) p bytes is = rw (same_Some (pieces_of t) p is) refl
-
-pub range_of_value : (o : Option Tree) (p : Pieces) (bytes : ℕ) → option_map pieces_of o ≡ Some p → option_and_then (λ t. option_map (range_of bytes) (pieces_of t).of_value) o ≡ option_map (range_of bytes) p.of_value
-range_of_value None p bytes is = absurd (none-some p is)
-range_of_value (Some t) p bytes is = rw (same_Some (pieces_of t) p is) refl
+pub range_of_found : (which : Pieces → Option Spot) (o : Option Tree) (p : Pieces) (bytes : ℕ) → option_map pieces_of o ≡ Some p
+    → option_and_then (λ t. option_map (range_of bytes) (which (pieces_of t))) o ≡ option_map (range_of bytes) (which p)
+range_of_found which o p bytes is = search rules
 
 pub range_of_piece : (k : Option Piece) (bytes : ℕ) → option_map (range_of bytes) (option_map piece_of k) ≡ option_map (λ p. range_of bytes (piece_of p)) k
-range_of_piece None bytes = refl
-range_of_piece (Some p) bytes = refl
+range_of_piece k bytes = search rules

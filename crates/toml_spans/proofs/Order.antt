@@ -4,7 +4,6 @@ pub mod Changes
 pub mod Holds
 pub mod Keys
 pub mod Ranges
-pub mod Rests
 pub mod Settled
 pub mod Values
 pub mod Walks

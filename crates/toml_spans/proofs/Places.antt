@@ -1,5 +1,5 @@
 -- Where bytes of a kind stand in a text, and the places of its bytes.
-use Rattle.std.proofs.Common.{◌≡◌, ◌≢◌, ◌⊎◌, ℕ, zero, suc, ◌+◌, ◌-◌, ◌<◌, ◌≤◌, Bool, true, false, not, cond, List, [], ◌∷◌, ◌++◌, length, take, drop, get_or, nat_lt, count_by, refl, sym, ap, ◌∙◌, inl, inr, arith, append_assoc, append-nil, length-append, take-append-drop, take_at}
+use Rattle.std.proofs.Common.{◌≡◌, ◌⊎◌, ℕ, zero, suc, ◌+◌, ◌-◌, ◌<◌, ◌≤◌, Bool, true, false, not, cond, List, [], ◌∷◌, ◌++◌, length, take, drop, get_or, nat_lt, count_by, refl, sym, ap, ◌∙◌, inl, inr, arith, append_assoc, length-append, take-append-drop, take_at, rules}
 use Rattle.std.proofs.Math.Nat.{add-zero, zero-add, suc-add, add-suc, add_comm}
 use Rattle.std.proofs.lemmas.Bool.{cases_Bool, cases_lt, true_from_ne_false}
 use Rattle.std.proofs.lemmas.Bool.Decides.{eqb_tells, nat_tests}
@@ -38,47 +38,25 @@ offsets_joined test first (x ∷ xs) ys =
       | inr fails ↦ rw fails on
     ]
 
--- one byte more, which passes
-pub offsets_more_yes : (test : ℕ → Bool) (first : ℕ) (xs : List ℕ) (i d : ℕ) → i < length xs → test (get_or xs i d) ≡ true → offsets_of test first (take (i + 1) xs) ≡ offsets_of test first (take i xs) ++ ((first + i) ∷ [])
-offsets_more_yes test first xs i d within passes =
+-- of a text with one byte more
+offsets_more : (test : ℕ → Bool) (first : ℕ) (xs : List ℕ) (i d : ℕ) → i < length xs
+    → offsets_of test first (take (i + 1) xs) ≡ offsets_of test first (take i xs) ++ cond (test (get_or xs i d)) ((first + i) ∷ []) []
+offsets_more test first xs i d within =
     let size : length (take i xs) ≡ i = length-take-le i xs (omega (arith, within)) in
-    rw (take_more xs i d within, offsets_joined test first (take i xs) (get_or xs i d ∷ []), passes, size) refl
-
--- one byte more, which doesn't
-pub offsets_more_no : (test : ℕ → Bool) (first : ℕ) (xs : List ℕ) (i d : ℕ) → i < length xs → test (get_or xs i d) ≡ false → offsets_of test first (take (i + 1) xs) ≡ offsets_of test first (take i xs)
-offsets_more_no test first xs i d within fails = rw (take_more xs i d within, offsets_joined test first (take i xs) (get_or xs i d ∷ []), fails) (append-nil (offsets_of test first (take i xs)))
+    rw (take_more xs i d within, offsets_joined test first (take i xs) (get_or xs i d ∷ []), size) refl
 
 -- of a text up to a byte
 abbrev pub AreUpTo : List ℕ → ℕ → List ℕ → List ℕ → Type 0
 AreUpTo text i line_begins continuations = (line_begins ≡ 0 ∷ offsets_of ends_line 1 (take i text)) × (continuations ≡ offsets_of continues_character 0 (take i text))
 
--- one byte more, which ends a line
-pub line_more : (text line_begins continuations : List ℕ) (i : ℕ) → i < length text → get_or text i 0 ≡ line_feed → AreUpTo text i line_begins continuations
-    → AreUpTo text (i + 1) (line_begins ++ ((i + 1) ∷ [])) continuations
-line_more text line_begins continuations i within feed so_far =
-    let ends : ends_line (get_or text i 0) ≡ true = rw feed refl in
-    let begins : continues_character (get_or text i 0) ≡ false = rw feed refl in (
-      rw (so_far.0, offsets_more_yes ends_line 1 text i 0 within ends, add_comm 1 i) refl,
-      rw (so_far.1, offsets_more_no continues_character 0 text i 0 within begins) refl,
-    )
-
--- one byte more, which continues a character
-pub continuation_more : (text line_begins continuations : List ℕ) (i : ℕ) → i < length text → get_or text i 0 ≢ line_feed → begins_character (get_or text i 0) ≡ false
-    → AreUpTo text i line_begins continuations → AreUpTo text (i + 1) line_begins (continuations ++ (i ∷ []))
-continuation_more text line_begins continuations i within no_feed continues so_far =
-    let ends : ends_line (get_or text i 0) ≡ false = grind (arith, nat_tests) in (
-      rw (so_far.0, offsets_more_no ends_line 1 text i 0 within ends) refl,
-      rw (so_far.1, offsets_more_yes continues_character 0 text i 0 within (ap not continues), zero-add i) refl,
-    )
-
--- one byte more, which begins a character that ends no line
-pub character_more : (text line_begins continuations : List ℕ) (i : ℕ) → i < length text → get_or text i 0 ≢ line_feed → begins_character (get_or text i 0) ≡ true
-    → AreUpTo text i line_begins continuations → AreUpTo text (i + 1) line_begins continuations
-character_more text line_begins continuations i within no_feed begins so_far =
-    let ends : ends_line (get_or text i 0) ≡ false = grind (arith, nat_tests) in (
-      rw (so_far.0, offsets_more_no ends_line 1 text i 0 within ends) refl,
-      rw (so_far.1, offsets_more_no continues_character 0 text i 0 within (ap not begins)) refl,
-    )
+-- up to the next one
+pub up_to_more : (text line_begins continuations : List ℕ) (i : ℕ) → i < length text → AreUpTo text i line_begins continuations
+    → AreUpTo text (i + 1) (line_begins ++ cond (ends_line (get_or text i 0)) ((i + 1) ∷ []) [])
+    (continuations ++ cond (continues_character (get_or text i 0)) (i ∷ []) [])
+up_to_more text line_begins continuations i within so_far = (
+  rw (so_far.0, offsets_more ends_line 1 text i 0 within, add_comm 1 i) refl,
+  rw (so_far.1, offsets_more continues_character 0 text i 0 within, zero-add i) refl,
+)
 
 -- they are as many as the bytes
 length-offsets : (test : ℕ → Bool) (first : ℕ) (xs : List ℕ) → length (offsets_of test first xs) ≡ count_by test xs
@@ -90,14 +68,11 @@ length-offsets test first (x ∷ xs) = elim (cases_Bool (test x)) [
 
 -- a number in front of numbers of which none is below it
 least_in_front : (x : ℕ) (ys : List ℕ) → ((j d : ℕ) → j < length ys → x ≤ get_or ys j d) → (j d : ℕ) → j < length (x ∷ ys) → x ≤ get_or (x ∷ ys) j d
-least_in_front x ys least zero d within = omega arith
-least_in_front x ys least (suc j) d within = least j d (omega (arith, within))
+least_in_front x ys least j d within = search rules
 
 -- so they ascend with it, where they do without it
 ascend_in_front : (x : ℕ) (ys : List ℕ) → ((j d : ℕ) → j < length ys → x ≤ get_or ys j d) → IsNonDecreasingBy (λ (it : ℕ). it) ys → IsNonDecreasingBy (λ (it : ℕ). it) (x ∷ ys)
-ascend_in_front x ys least ascend zero j d before within = least_in_front x ys least j d within
-ascend_in_front x ys least ascend (suc i) zero d before within = absurd (omega (arith, before))
-ascend_in_front x ys least ascend (suc i) (suc j) d before within = ascend i j d (omega (arith, before)) (omega (arith, within))
+ascend_in_front x ys least ascend h4 j d before within = search rules
 
 -- no offset is below that of the first byte
 offsets_least : (test : ℕ → Bool) (first : ℕ) (xs : List ℕ) (j d : ℕ) → j < length (offsets_of test first xs) → first ≤ get_or (offsets_of test first xs) j d

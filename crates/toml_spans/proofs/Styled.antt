@@ -1,8 +1,8 @@
 -- Writes in turn under the options of a format.
-use Rattle.std.proofs.Common.{◌≡◌, ℕ, List, ◌++◌, Option, Result, option_map, subst, sym, rules}
+use Rattle.std.proofs.Common.{◌≡◌, ℕ, List, ◌++◌, Option, Result, option_map, subst, rules}
 use Rattle.std.proofs.Output.{has_written_styled_append}
 use Rattle.std.specs.declared.fmt.Formatter.{Formatter}
-use Rattle.std.specs.Fmt.{DisplaysStyledOnOk, HasWritten, HasWrittenStyled, IsDefaultSpec, IsFlush, IsPlainFormatter}
+use Rattle.std.specs.Fmt.{DisplaysStyledOnOk, HasWritten, HasWrittenStyled, IsFlush, IsPlainFormatter}
 use Rattle.std.specs.declared.fmt.Error.{Error}
 
 module _ {W : Type 0} (took : W → List ℕ → W → Type 0) where
@@ -30,5 +30,4 @@ module _ {W : Type 0} {took : W → List ℕ → W → Type 0} {f g h : Formatte
 -- what is written so under all options is written so under none
 pub plainly : {W : Type 0} {took : W → List ℕ → W → Type 0} {f g : Formatter W} {text : List ℕ} → IsPlainFormatter f
     → HasWrittenStyled took f text g → HasWritten took f text g
-plainly plain written =
-    record { wrote = written.wrote; plain = record { bare = subst IsDefaultSpec (sym written.spec) plain.bare; flush = written.flush } }
+plainly plain written = search rules

@@ -2,6 +2,7 @@ pub mod Alike
 pub mod Stands
 pub mod Rests
 pub mod Found
+pub mod Holding
 pub mod Tables
 pub mod Keys
 pub mod Values

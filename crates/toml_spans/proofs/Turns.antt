@@ -1,19 +1,19 @@
 -- The walk over a text, a turn at a time.
-use Rattle.std.proofs.Common.{◌≡◌, ℕ, zero, suc, ◌-◌, ◌<◌, ◌≤◌, true, false, cond, ◌||◌, ◌==◌, List, [], ◌∷◌, ◌++◌, length, length-take, length-drop, get_or, take, take_all, drop, Option, Some, None, option_and_then, Result, Ok, Err, refl, sym, ◌∙◌, arith}
+use Rattle.std.proofs.Common.{◌≡◌, ℕ, Bool, suc, ◌-◌, ◌<◌, ◌≤◌, true, false, cond, ◌||◌, ◌==◌, List, [], ◌∷◌, ◌++◌, length, get_or, take, take_all, drop, Option, Some, None, option_and_then, Result, refl, ap, ◌∙◌, arith, rules}
 use Rattle.std.proofs.lemmas.Bool.{false≢true}
-use Rattle.std.proofs.lemmas.Bool.Decides.{nat_tests}
+use Rattle.std.specs.Borrow.{Bor}
 use Rattle.std.specs.Result.{IsErrAnd}
-use Rattle.toml_parser.specs.Lexical.{first, is_word, Read, skip_blank, skip_ws}
-use Rattle.toml_parser.specs.Numbers.{unquoted, word_len}
+use Rattle.toml_spans.proofs.Alone.Values.{atom_none}
+use Rattle.toml_parser.specs.Lexical.{first, Read, skip_blank, skip_ws}
 use Rattle.toml_parser.specs.Strings.{simple_key}
 use Rattle.toml.specs.Parse.{after_element, atom}
 use Rattle.toml.specs.Tables.{Origin}
-use Rattle.toml_spans.specs.Entry.{array, Branches, get_branch, inline, insert_branch, no_branches, no_trees, piece, push_tree, replace_branch, scalar, table, Tree, Trees}
+use Rattle.toml_spans.specs.Entry.{array, Branches, get_branch, inline, no_branches, no_trees, piece, push_tree, scalar, Tree, Trees}
 use Rattle.toml_spans.specs.Key.{Part, Parts, parts_after}
 use Rattle.toml_spans.specs.KeyViews.{part_of, path_of}
-use Rattle.toml_spans.specs.Refusal.{Gives, refusal_of}
-use Rattle.toml_spans.specs.Table.{along, at_part, Definition, Growth, new_tree, put, redefined, through}
-use Rattle.toml_spans.specs.Value.{element_trees, member_trees, pair_tree, parts_equals, placed, value_tree}
+use Rattle.toml_spans.specs.Refusal.{Gives, Reads, refusal_of}
+use Rattle.toml_spans.specs.Table.{along, at_found, at_part, by_part, Definition, Growth, put}
+use Rattle.toml_spans.specs.Value.{element_trees, member_trees, pair_tree, placed, value_tree}
 use Rattle.toml_spans.specs.declared.key.Part.{Part as CodePart}
 use Rattle.toml_spans.specs.declared.refusal.Refusal.{Refusal}
 use Rattle.toml_spans.specs.declared.refusal.Refusal.TheVariants.{NoDocument}
@@ -21,17 +21,14 @@ use Rattle.toml_parser.specs.declared.error.ParseError.{ParseError}
 use Rattle.toml_parser.specs.declared.error.ParseError.TheVariants as parse_error
 
 -- a refusal that a `?` passes on
-pub gives_err : {A B : Type 0} (f : A → B) (r : Result A Refusal) (expected : Option B) (e : Refusal) (Q : Refusal → Type 0)
-    → IsErrAnd r Q → ((y : Refusal) → Q y → y ≡ e) → (e ≡ NoDocument → expected ≡ None) → Gives f r expected
-gives_err f (Ok a) expected e Q h same refused = absurd h
-gives_err f (Err y) expected e Q h same refused = λ is. refused (sym (same y h) ∙ is)
+pub gives_err : {A B : Type 0} (f : A → B) (r : Result A Refusal) {expected : Option B} {e : Refusal}
+    → IsErrAnd r (λ y. y ≡ e) → (e ≡ NoDocument → expected ≡ None) → Gives f r expected
+gives_err f r is refused = search rules
 
 -- the same of an error of a reader
-pub gives_read_err : {A B : Type 0} (f : A → B) (r : Result A Refusal) (expected : Option B) (e : ParseError) (Q : Refusal → Type 0)
-    → IsErrAnd r Q → ((y : Refusal) → Q y → y ≡ refusal_of e) → ((e ≡ parse_error.OutOfMemory → ⊥) → expected ≡ None) → Gives f r expected
-gives_read_err f (Ok a) expected e Q h same refused = absurd h
-gives_read_err f (Err y) expected parse_error.OutOfMemory Q h same refused = λ is. absurd (cc (same y h, is))
-gives_read_err f (Err y) expected (parse_error.At k from to) Q h same refused = λ is. refused (λ memory. cc memory)
+pub gives_read_err : {A B : Type 0} (f : A → B) (r : Result A Refusal) {expected : Option B} {e : ParseError}
+    → IsErrAnd r (λ y. y ≡ refusal_of e) → ((e ≡ parse_error.OutOfMemory → ⊥) → expected ≡ None) → Gives f r expected
+gives_read_err f r is refused = search rules
 
 -- ---- keys
 
@@ -47,109 +44,96 @@ after_part n path text read = cond (first (skip_ws read.1) == 46)
 
 pub parts_turn : (n : ℕ) (path : List Part) (text : List ℕ) → 0 < n → parts_after n path text ≡ option_and_then (after_part (n - 1) path text) (simple_key text)
 unfolding parts_after
-parts_turn zero path text h = absurd (omega arith)
-parts_turn (suc n) path text h = let less : suc n - 1 ≡ n = omega arith in rw less
+parts_turn n path text h = search rules
 
 -- ---- values
 
-pub elements_end : (val : List ℕ → Read Tree) (m : ℕ) (found : Trees) (text : List ℕ) → 0 < m → (first (skip_blank text) == 93) ≡ true
-    → element_trees val m found text ≡ Some (found, drop 1 (skip_blank text))
-unfolding element_trees
-elements_end val zero found text some closing = absurd (omega arith)
-elements_end val (suc m) found text some closing = rw closing
+-- a loop over a text comes from its beginning, with nothing found, to this rest with what it found
+abbrev pub Goes : {F : Type 0} → (ℕ → F → List ℕ → Read F) → List ℕ → F → F → List ℕ → Type 0
+Goes loop text none found rest = (n : ℕ) → length text < n
+    → (m : ℕ) × (length rest < m) × (loop n none text ≡ loop m found rest)
 
-pub elements_more : (val : List ℕ → Read Tree) (m : ℕ) (found : Trees) (text : List ℕ) (t : Tree) (after next : List ℕ) → 0 < m → (first (skip_blank text) == 93) ≡ false
-    → val (skip_blank text) ≡ Some (t, after) → after_element 93 after ≡ Some next → element_trees val m found text ≡ element_trees val (m - 1) (push_tree found t) next
-unfolding element_trees
-elements_more val zero found text t after next some other read element = absurd (omega arith)
-elements_more val (suc m) found text t after next some other read element =
-    let less : suc m - 1 ≡ m = omega arith in
-    rw (other, read, element, less)
+module _ {F : Type 0} (loop : ℕ → F → List ℕ → Read F) {text rest : List ℕ} {none found : F} where
+  -- where its next turn is the last, it answers as that does
+  pub goes_to : {answer : Read F} → Goes loop text none found rest
+      → ((m : ℕ) → loop (suc m) found rest ≡ answer)
+      → (n : ℕ) → length text < n → loop n none text ≡ answer
+  goes_to goes last n enough =
+      let (m, room, same) = goes n enough in
+      let some : m ≡ suc (m - 1) = omega (arith, room) in
+      same ∙ ap (λ k. loop k found rest) some ∙ last (m - 1)
 
-pub elements_bad : (val : List ℕ → Read Tree) (m : ℕ) (found : Trees) (text : List ℕ) → 0 < m → (first (skip_blank text) == 93) ≡ false
-    → val (skip_blank text) ≡ None → element_trees val m found text ≡ None
-unfolding element_trees
-elements_bad val zero found text some other read = absurd (omega arith)
-elements_bad val (suc m) found text some other read = rw (other, read)
+  -- one turn more
+  pub goes_on : {more : F} {next : List ℕ} → Goes loop text none found rest → length next < length rest
+      → ((m : ℕ) → loop (suc m) found rest ≡ loop m more next)
+      → Goes loop text none more next
+  goes_on goes shorter turn n enough =
+      let (m, room, same) = goes n enough in
+      let some : m ≡ suc (m - 1) = omega (arith, room) in
+      (m - 1, omega (arith, room, shorter), same ∙ ap (λ k. loop k found rest) some ∙ turn (m - 1))
 
-pub elements_bad_end : (val : List ℕ → Read Tree) (m : ℕ) (found : Trees) (text : List ℕ) (t : Tree) (after : List ℕ) → 0 < m → (first (skip_blank text) == 93) ≡ false
-    → val (skip_blank text) ≡ Some (t, after) → after_element 93 after ≡ None → element_trees val m found text ≡ None
-unfolding element_trees
-elements_bad_end val zero found text t after some other read element = absurd (omega arith)
-elements_bad_end val (suc m) found text t after some other read element = rw (other, read, element)
+  -- where its next turn isn't the last and refuses the text, so does it
+  pub goes_wrong : {A : Type 0} (seen : A → F) (r : Result (A × Bor (List ℕ)) Refusal) {e : Refusal} (closes : Bool) (over : Read F) (turn : ℕ → Read F)
+      → Goes loop text none found rest → IsErrAnd r (λ y. y ≡ e)
+      → ((m : ℕ) → loop (suc m) found rest ≡ cond closes over (turn m)) → closes ≡ false → (e ≡ NoDocument → (m : ℕ) → turn m ≡ None)
+      → (n : ℕ) → length text < n → Reads seen r (loop n none text)
+  goes_wrong seen r closes over turn goes is turns other wrong n enough =
+      gives_err _ r is λ refused. goes_to goes (λ m. turns m ∙ rw other (wrong refused m)) n enough
 
-pub value_scalar : (depth : ℕ) (text : List ℕ) → (first text == 91) ≡ false → (first text == 123) ≡ false → value_tree depth text ≡ placed (λ v d. scalar None v) text (atom text)
+module _ (val : List ℕ → Read Tree) where
+  -- a turn over the elements of an array
+  pub elements_turn : (m : ℕ) (found : Trees) (text : List ℕ) → element_trees val (suc m) found text
+      ≡ cond (first (skip_blank text) == 93) (Some (found, drop 1 (skip_blank text)))
+      (option_and_then (λ v. option_and_then (element_trees val m (push_tree found v.0))
+      (after_element 93 v.1)) (val (skip_blank text)))
+  unfolding element_trees
+  elements_turn m found text = refl
+
+  -- a turn over the members of an inline table
+  pub members_turn : (m : ℕ) (found : Branches) (text : List ℕ) → member_trees val (suc m) found text
+      ≡ cond (first (skip_blank text) == 125) (Some (found, drop 1 (skip_blank text)))
+      (option_and_then (λ e. option_and_then (λ more. option_and_then (member_trees val m more)
+      (after_element 125 e.1)) (put e.0.0 e.0.1 found)) (pair_tree val (skip_blank text)))
+  unfolding member_trees
+  members_turn m found text = refl
+
+-- a value with room for one more level
+pub value_level : (depth : ℕ) (text : List ℕ) → value_tree (suc depth) text
+    ≡ cond (first text == 91) (placed (λ v ts. array None v ts) text
+    (element_trees (value_tree depth) (length text) no_trees (drop 1 text)))
+    (cond (first text == 123) (placed (λ v bs. inline None v bs) text
+    (member_trees (value_tree depth) (length text) no_branches (drop 1 text)))
+    (placed (λ v d. scalar None v) text (atom text)))
 unfolding value_tree
-value_scalar zero text a b = refl
-value_scalar (suc depth) text a b = rw (a, b)
+value_level depth text = refl
 
+-- a value above the end of the depth
+some_level : (depth : ℕ) (text : List ℕ) → 0 < depth → value_tree depth text ≡ value_tree (suc (depth - 1)) text
+some_level depth text some =
+    let above : depth ≡ suc (depth - 1) = omega (arith, some) in
+    ap (λ level. value_tree level text) above
+
+-- an array
 pub value_array : (depth : ℕ) (text : List ℕ) → 0 < depth → (first text == 91) ≡ true
     → value_tree depth text ≡ placed (λ v ts. array None v ts) text (element_trees (value_tree (depth - 1)) (length text) no_trees (drop 1 text))
-unfolding value_tree
-value_array zero text some a = absurd (omega arith)
-value_array (suc depth) text some a =
-    let less : suc depth - 1 ≡ depth = omega arith in
-    rw (less, a)
+value_array depth text some square = some_level depth text some ∙ rw (value_level (depth - 1) text, square) refl
 
+-- an inline table
 pub value_inline : (depth : ℕ) (text : List ℕ) → 0 < depth → (first text == 91) ≡ false → (first text == 123) ≡ true
     → value_tree depth text ≡ placed (λ v bs. inline None v bs) text (member_trees (value_tree (depth - 1)) (length text) no_branches (drop 1 text))
+value_inline depth text some square brace = some_level depth text some ∙ rw (value_level (depth - 1) text, square, brace) refl
+
+-- a value that no bracket begins
+pub value_scalar : (depth : ℕ) (text : List ℕ) → (first text == 91) ≡ false → (first text == 123) ≡ false
+    → value_tree depth text ≡ placed (λ v d. scalar None v) text (atom text)
 unfolding value_tree
-value_inline zero text some a b = absurd (omega arith)
-value_inline (suc depth) text some a b =
-    let less : suc depth - 1 ≡ depth = omega arith in
-    rw (less, a, b)
+value_scalar depth text square brace = search rules
 
 -- at the end of the depth a bracket is no value
 pub value_deep : (text : List ℕ) → ((first text == 91) || (first text == 123)) ≡ true → value_tree 0 text ≡ None
-unfolding value_tree atom unquoted word_len
+unfolding value_tree
 value_deep [] h = absurd (false≢true h)
-value_deep (c ∷ cs) h =
-    let not_quote : (c == 34) ≡ false = grind (arith, nat_tests) in
-    let not_apostrophe : (c == 39) ≡ false = grind (arith, nat_tests) in
-    let not_word : is_word c ≡ false = grind (arith, nat_tests) in
-    let not_space : (c == 32) ≡ false = grind (arith, nat_tests) in
-    rw (not_quote, not_apostrophe, not_word, not_space)
-
-pub pair_ok : (val : List ℕ → Read Tree) (text at_value after : List ℕ) (key : Parts) (t : Tree) → parts_equals text ≡ Some (key, at_value) → val at_value ≡ Some (t, after) → pair_tree val text ≡ Some ((key, t), after)
-pair_ok val text at_value after key t first_part second = rw (first_part, second)
-
-pub pair_no_key : (val : List ℕ → Read Tree) (text : List ℕ) → parts_equals text ≡ None → pair_tree val text ≡ None
-pair_no_key val text none = rw none
-
-pub pair_no_value : (val : List ℕ → Read Tree) (text at_value : List ℕ) (key : Parts) → parts_equals text ≡ Some (key, at_value) → val at_value ≡ None → pair_tree val text ≡ None
-pair_no_value val text at_value key first_part second = rw (first_part, second)
-
-pub members_end : (val : List ℕ → Read Tree) (m : ℕ) (found : Branches) (text : List ℕ) → 0 < m → (first (skip_blank text) == 125) ≡ true
-    → member_trees val m found text ≡ Some (found, drop 1 (skip_blank text))
-unfolding member_trees
-members_end val zero found text some closing = absurd (omega arith)
-members_end val (suc m) found text some closing = rw closing
-
-pub members_more : (val : List ℕ → Read Tree) (m : ℕ) (found more : Branches) (text : List ℕ) (key : Parts) (t : Tree) (after next : List ℕ) → 0 < m → (first (skip_blank text) == 125) ≡ false
-    → pair_tree val (skip_blank text) ≡ Some ((key, t), after) → put key t found ≡ Some more → after_element 125 after ≡ Some next → member_trees val m found text ≡ member_trees val (m - 1) more next
-unfolding member_trees
-members_more val zero found more text key t after next some other read edit element = absurd (omega arith)
-members_more val (suc m) found more text key t after next some other read edit element =
-    let less : suc m - 1 ≡ m = omega arith in
-    rw (other, read, edit, element, less)
-
-pub members_bad : (val : List ℕ → Read Tree) (m : ℕ) (found : Branches) (text : List ℕ) → 0 < m → (first (skip_blank text) == 125) ≡ false
-    → pair_tree val (skip_blank text) ≡ None → member_trees val m found text ≡ None
-unfolding member_trees
-members_bad val zero found text some other read = absurd (omega arith)
-members_bad val (suc m) found text some other read = rw (other, read)
-
-pub members_bad_put : (val : List ℕ → Read Tree) (m : ℕ) (found : Branches) (text : List ℕ) (key : Parts) (t : Tree) (after : List ℕ) → 0 < m → (first (skip_blank text) == 125) ≡ false
-    → pair_tree val (skip_blank text) ≡ Some ((key, t), after) → put key t found ≡ None → member_trees val m found text ≡ None
-unfolding member_trees
-members_bad_put val zero found text key t after some other read edit = absurd (omega arith)
-members_bad_put val (suc m) found text key t after some other read edit = rw (other, read, edit)
-
-pub members_bad_end : (val : List ℕ → Read Tree) (m : ℕ) (found more : Branches) (text : List ℕ) (key : Parts) (t : Tree) (after : List ℕ) → 0 < m → (first (skip_blank text) == 125) ≡ false
-    → pair_tree val (skip_blank text) ≡ Some ((key, t), after) → put key t found ≡ Some more → after_element 125 after ≡ None → member_trees val m found text ≡ None
-unfolding member_trees
-members_bad_end val zero found more text key t after some other read edit element = absurd (omega arith)
-members_bad_end val (suc m) found more text key t after some other read edit element = rw (other, read, edit, element)
+value_deep (c ∷ text) h = rw (atom_none c text (rw h refl)) refl
 
 -- ---- tables
 
@@ -164,36 +148,12 @@ pub path_none : (xs : List CodePart) → length xs < 1 → path_of xs ≡ []
 path_none [] none = refl
 path_none (x ∷ xs) none = absurd (omega arith)
 
--- the rest of a slice is shorter
-pub tail_shorter : {X : Type 0} (xs : List X) → 1 ≤ length xs → length (take (length xs - 1) (drop 1 xs)) < length xs
-tail_shorter xs some = omega (arith, length-take (length xs - 1) (drop 1 xs), length-drop 1 xs)
-
-pub at_part_ok : (part : Part) (what : Definition) (bs new : Branches) (t u : Tree) → get_branch part.0 bs ≡ Some t → redefined part.1 what t ≡ Some u → new ≡ replace_branch part.0 u bs → at_part part what bs ≡ Some new
+-- what is defined at the last part of a key, by what stands there
+pub at_part_turn : (part : Part) (what : Definition) (bs : Branches) → at_part part what bs ≡ at_found part what bs (get_branch part.0 bs)
 unfolding at_part
-at_part_ok part what bs new t u found step written = rw (found, step, written)
+at_part_turn part what bs = refl
 
-pub at_part_err : (part : Part) (what : Definition) (bs : Branches) (t : Tree) → get_branch part.0 bs ≡ Some t → redefined part.1 what t ≡ None → at_part part what bs ≡ None
-unfolding at_part
-at_part_err part what bs t found step = rw (found, step)
-
-pub at_part_new : (part : Part) (what : Definition) (bs : Branches) → get_branch part.0 bs ≡ None → at_part part what bs ≡ Some (insert_branch part.0 (new_tree part.1 what) bs)
-unfolding at_part
-at_part_new part what bs none = rw none
-
-pub along_ok : (by : Origin) (part : Part) (path : List Part) (grow : Growth) (bs new : Branches) (t u : Tree) → get_branch part.0 bs ≡ Some t → through by (along by path grow) t ≡ Some u → new ≡ replace_branch part.0 u bs
-    → along by (part ∷ path) grow bs ≡ Some new
+-- a part of a path, by what stands there
+pub along_turn : (by : Origin) (part : Part) (path : List Part) (grow : Growth) (bs : Branches) → along by (part ∷ path) grow bs ≡ by_part by part (along by path grow) bs (get_branch part.0 bs)
 unfolding along
-along_ok by part path grow bs new t u found step written = rw (found, step, written)
-
-pub along_err : (by : Origin) (part : Part) (path : List Part) (grow : Growth) (bs : Branches) (t : Tree) → get_branch part.0 bs ≡ Some t → through by (along by path grow) t ≡ None → along by (part ∷ path) grow bs ≡ None
-unfolding along
-along_err by part path grow bs t found step = rw (found, step)
-
-pub along_new : (by : Origin) (part : Part) (path : List Part) (grow : Growth) (bs inner new : Branches) → get_branch part.0 bs ≡ None → along by path grow no_branches ≡ Some inner → new ≡ insert_branch part.0 (table part.1 by inner) bs
-    → along by (part ∷ path) grow bs ≡ Some new
-unfolding along
-along_new by part path grow bs inner new none step written = rw (none, step, written)
-
-pub along_new_err : (by : Origin) (part : Part) (path : List Part) (grow : Growth) (bs : Branches) → get_branch part.0 bs ≡ None → along by path grow no_branches ≡ None → along by (part ∷ path) grow bs ≡ None
-unfolding along
-along_new_err by part path grow bs none step = rw (none, step)
+along_turn by part path grow bs = refl

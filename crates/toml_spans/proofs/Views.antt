@@ -1,5 +1,5 @@
 -- Entries and members beside the trees and the branches that they are seen as.
-use Rattle.std.proofs.Common.{◌≡◌, ℕ, cond, List, [], ◌∷◌, ◌++◌, map, Option, Some, None, option_map, String, Vec, BTreeMap, Global, MutBor, Ordering, Less, Equal, Greater, string_bytes, nat_cmp, is_eq, refl, sym, ap, ◌∙◌, rules, inl, inr}
+use Rattle.std.proofs.Common.{◌≡◌, ℕ, cond, List, [], ◌∷◌, ◌++◌, map, Option, Some, option_map, String, Vec, BTreeMap, Global, MutBor, Ordering, string_bytes, nat_cmp, is_eq, refl, sym, ap, ◌∙◌, rules, inl, inr}
 use Rattle.std.proofs.lemmas.Bool.{cases_Bool}
 use Rattle.std.specs.BTreeMap.{get_by, insert_entry, is_at}
 use Rattle.std.specs.Cmp.Lexicographic.{slice_cmp}
@@ -44,9 +44,7 @@ abbrev pub at_text : List ℕ → String Global → Ordering
 at_text k x = slice_cmp nat_cmp k (string_bytes x)
 
 found_or : (o : Ordering) (x : Entry) (rest : Option Entry) (d : Option Tree) → option_map tree_of rest ≡ d → option_map tree_of (cond (is_eq o) (Some x) rest) ≡ cond (is_eq o) (Some (tree_of x)) d
-found_or Less x rest d e = e
-found_or Equal x rest d e = refl
-found_or Greater x rest d e = e
+found_or o x rest d e = search rules
 
 pub tree_of-lookup : (k : List ℕ) (es : List Pair) → option_map tree_of (lookup (is_at (at_text k)) es) ≡ get_branch k (pairs_of es)
 tree_of-lookup k [] = refl
@@ -62,24 +60,18 @@ pairs_of-set_value k (e ∷ es) w =
     ]
 
 match_pairs : (o : Ordering) (a b c : List Pair) → pairs_of (match_ordering o a b c) ≡ match_ordering o (pairs_of a) (pairs_of b) (pairs_of c)
-match_pairs Less a b c = refl
-match_pairs Equal a b c = refl
-match_pairs Greater a b c = refl
+match_pairs o a b c = search rules
 
 pub pairs_of-insert_entry : (es : List Pair) (k : String Global) (x : Entry) → pairs_of (insert_entry string_cmp es k x) ≡ insert_branch (string_bytes k) (tree_of x) (pairs_of es)
 pairs_of-insert_entry [] k x = refl
 pairs_of-insert_entry (e ∷ es) k x = match_pairs (string_cmp k e.0) _ _ _ ∙ rw (pairs_of-insert_entry es k x)
 
--- what `get_mut` found
-pub found_at : (k : List ℕ) (m : BTreeMap (String Global) Entry) (r : Option (MutBor Entry)) (slot : MutBor Entry) → r ≡ Some slot → option_copied_mut r ≡ get_by (at_text k) m
-    → get_branch k (branches_of m) ≡ Some (tree_of slot.now)
-found_at k m r slot is value =
-    sym (tree_of-lookup k m.entries) ∙ ap (option_map tree_of) (sym (rw is at value))
-
-pub missing_at : (k : List ℕ) (m : BTreeMap (String Global) Entry) (r : Option (MutBor Entry)) → r ≡ None → option_copied_mut r ≡ get_by (at_text k) m → get_branch k (branches_of m) ≡ None
-missing_at k m r is value =
-    sym (tree_of-lookup k m.entries) ∙ ap (option_map tree_of) (sym (rw is at value))
+-- what `get_mut` found under a key with this text
+pub looked_up : (k s : List ℕ) (m : BTreeMap (String Global) Entry) (r : Option (MutBor Entry)) → s ≡ k → option_copied_mut r ≡ get_by (at_text s) m
+    → get_branch k (branches_of m) ≡ option_map tree_of (option_copied_mut r)
+looked_up k s m r same value = rw (← same) (sym (tree_of-lookup s m.entries) ∙ ap (option_map tree_of) (sym value))
 
 -- what writing through it leaves
-pub written_at : (k : List ℕ) (m n : BTreeMap (String Global) Entry) (w : Entry) → n.entries ≡ set_value (is_at (at_text k)) m.entries w → branches_of n ≡ replace_branch k (tree_of w) (branches_of m)
-written_at k m n w e = ap pairs_of e ∙ pairs_of-set_value k m.entries w
+pub written_at : (k s : List ℕ) (m n : BTreeMap (String Global) Entry) (w : Entry) → s ≡ k → n.entries ≡ set_value (is_at (at_text s)) m.entries w
+    → branches_of n ≡ replace_branch k (tree_of w) (branches_of m)
+written_at k s m n w same e = rw (← same) (ap pairs_of e ∙ pairs_of-set_value s m.entries w)

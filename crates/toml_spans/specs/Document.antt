@@ -39,14 +39,17 @@ pub record Walk : Type 0 where
   pub root : Branches
   pub section : List Part
 
--- the walk after one more statement: a pair goes into the table of the last header, and a header
--- starts from the root
+-- the walk after a header, which starts from the root
+abbrev pub walk_to : Branches → Parts → Definition → Option Walk
+walk_to before key what = option_map
+    (λ root. record { root = root; section = key.0 ++ key.1 ∷ [] })
+    (along implicit key.0 (at_part key.1 what) before)
+
+-- the walk after one more statement: a pair goes into the table of the last header
 abbrev pub walk_on : Walk → Parts → Definition → Option Walk
 walk_on walk key (pair t) = option_map (λ root. record { root = root; section = walk.section })
     (along implicit walk.section (put key t) walk.root)
-walk_on walk key what = option_map
-    (λ root. record { root = root; section = key.0 ++ key.1 ∷ [] })
-    (along implicit key.0 (at_part key.1 what) walk.root)
+walk_on walk key what = walk_to walk.root key what
 
 -- the walk before the first statement
 abbrev pub no_walk : Walk

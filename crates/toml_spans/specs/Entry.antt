@@ -1,10 +1,10 @@
 -- What stands where in a document: a tree of the keys and values of a text, each with its pieces.
-use Rattle.std.specs.Prelude.{ℕ, zero, suc, if◌then◌else◌, List, [], ◌∷◌, length, Option, Some, None, option_and_then}
+use Rattle.std.specs.Prelude.{ℕ, zero, suc, if◌then◌else◌, List, length, Option, Some, None}
 use Rattle.std.specs.Cmp.Lexicographic.{slice_cmp}
 use Rattle.std.specs.Ordering.{match_ordering, nat_cmp}
 use Rattle.toml.specs.Data.{same_key}
 use Rattle.toml.specs.Tables.{header, Origin}
-use Rattle.toml_spans.specs.Step.{index, key, PathStep}
+use Rattle.toml_spans.specs.Step.{follow, follow_path, index, key, PathStep}
 
 -- a piece of a text: how many bytes stand from its beginning on, and how many after its end
 abbrev pub Piece : Type 0
@@ -89,14 +89,11 @@ tree_from t step = None
 
 -- the tree that steps lead to, from a tree
 abbrev pub tree_below : List PathStep → Tree → Option Tree
-tree_below [] t = Some t
-tree_below (step ∷ rest) t = option_and_then (tree_below rest) (tree_from t step)
+tree_below = follow tree_from
 
--- the tree that a path leads to, from the root; the empty path leads to nothing
+-- the tree that a path leads to, from the root
 abbrev pub tree_at : Branches → List PathStep → Option Tree
-tree_at bs [] = None
-tree_at bs (key text ∷ rest) = option_and_then (tree_below rest) (get_branch text bs)
-tree_at bs (index place ∷ rest) = None
+tree_at bs = follow_path tree_from (λ text. get_branch text bs)
 
 -- ---- changes
 

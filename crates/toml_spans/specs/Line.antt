@@ -1,8 +1,8 @@
 -- What a path leads to in what `toml` reads, and the lines of a text.
-use Rattle.std.specs.Prelude.{◌≡◌, ℕ, suc, ◌==◌, List, [], ◌∷◌, ◌++◌, count_by, Option, Some, None, option_and_then}
+use Rattle.std.specs.Prelude.{◌≡◌, ℕ, suc, ◌==◌, List, [], ◌∷◌, ◌++◌, count_by, Option}
 use Rattle.toml.specs.Data.{Data, Members, at, get, get_member}
 use Rattle.toml_spans.specs.Characters.{line_feed}
-use Rattle.toml_spans.specs.Step.{PathStep, index, key}
+use Rattle.toml_spans.specs.Step.{follow, follow_path, index, key, PathStep}
 
 -- ---- what a path leads to
 
@@ -13,14 +13,11 @@ step_from value (index place) = at place value
 
 -- the value that steps lead to, from a value
 abbrev pub found_below : List PathStep → Data → Option Data
-found_below [] value = Some value
-found_below (step ∷ rest) value = option_and_then (found_below rest) (step_from value step)
+found_below = follow step_from
 
--- the value that a path leads to, from the keys of a document; the empty path leads to none
+-- the value that a path leads to, from the keys of a document
 abbrev pub found_in : Members → List PathStep → Option Data
-found_in top [] = None
-found_in top (key text ∷ rest) = option_and_then (found_below rest) (get_member text top)
-found_in top (index place ∷ rest) = None
+found_in top = follow_path step_from (λ text. get_member text top)
 
 -- ---- lines
 

@@ -1,5 +1,5 @@
 -- Paths of values in a document, and how they print.
-use Rattle.std.specs.Prelude.{ℕ, Bool, true, false, not, ◌&&◌, ◌==◌, List, [], ◌∷◌, ◌++◌, length, flat_map, codes, decimal, if◌then◌else◌, string_bytes}
+use Rattle.std.specs.Prelude.{ℕ, Bool, true, false, not, ◌&&◌, ◌==◌, List, [], ◌∷◌, ◌++◌, length, flat_map, codes, decimal, if◌then◌else◌, Option, None, Some, option_and_then, string_bytes}
 use Rattle.std.specs.List.{list_all}
 use Rattle.toml_parser.specs.Lexical.{is_bare}
 use Rattle.toml_spans.specs.QuotedText.{quoted_text}
@@ -15,6 +15,18 @@ pub data PathStep : Type 0 where
 abbrev pub step_of : Step → PathStep
 step_of (Key text) = key (string_bytes text)
 step_of (Index place) = index place
+
+module _ {A : Type 0} (from : A → PathStep → Option A) where
+  -- what steps lead to, one after the other
+  abbrev pub follow : List PathStep → A → Option A
+  follow [] a = Some a
+  follow (step ∷ rest) a = option_and_then (follow rest) (from a step)
+
+  -- what a path leads to, from keys; the empty path leads to nothing
+  abbrev pub follow_path : (List ℕ → Option A) → List PathStep → Option A
+  follow_path at_key [] = None
+  follow_path at_key (key text ∷ rest) = option_and_then (follow rest) (at_key text)
+  follow_path at_key (index place ∷ rest) = None
 
 -- a key that needs no quotes: letters and digits of ASCII, `-` and `_`, at least one (TOML 1.1,
 -- "Keys")

@@ -1,14 +1,14 @@
 //! The statements of a document, one after the other, and what stands where after them.
 
-ghost use Rattle.std.specs.Prelude.{◌≡◌, ◌≤◌, [], ◌∷◌, ◌++◌, IfErr, IfOk, None, OnOk, length};
+ghost use Rattle.std.specs.Prelude.{◌≡◌, ◌≤◌, IfErr, IfOk, None, length};
 ghost use Rattle.toml.specs.Parse as grammar;
 ghost use Rattle.toml.specs.Tables.{implicit};
 ghost use Rattle.toml_spans.specs.Document as spec;
 ghost use Rattle.toml_spans.specs.Document.{IsWalked};
-ghost use Rattle.toml_spans.specs.DocumentViews.{Defines, statement_of};
+ghost use Rattle.toml_spans.specs.DocumentViews.{Defines, statement_of, walk_from};
 ghost use Rattle.toml_spans.specs.EntryViews.{branches_of, tree_of};
 ghost use Rattle.toml_spans.specs.KeyViews.{part_of, parts_of, path_of};
-ghost use Rattle.toml_spans.specs.Refusal.{Reads, Shortens};
+ghost use Rattle.toml_spans.specs.Refusal.{Gives, Reads, Shortens};
 ghost use Rattle.toml_spans.specs.Table as tables;
 ghost use Rattle.toml_spans.specs.TableViews.{definition_of, Grows};
 
@@ -16,7 +16,7 @@ use crate::entry::{Entry, Members, Origin};
 use crate::key::{KeyParts, Part, parts};
 use crate::refusal::Refusal;
 use crate::table::{Definition, along};
-use crate::value::{key_equals, value};
+use crate::value::pair;
 use std::alloc::{AllocError, Global};
 use std::collections::BTreeMap;
 use toml_parser::RECURSION_LIMIT;
@@ -43,6 +43,7 @@ pub(crate) fn walk_over(alloc: Global, text: &str) -> Result<Members, Refusal>
 }
 
 // The text without a byte order mark at its beginning.
+#[tactic(auto, unfolding(toml::specs::Parse::skip_bom))]
 fn skip_bom(text: &str) -> &str
     ensures rest { result.now ≡ grammar.skip_bom text.now }
     ensures within { length result.now ≤ length text.now }
@@ -66,7 +67,10 @@ fn define(
 {
     match what {
         Definition::Pair(value) => define_pair(alloc, root, section, key, value),
-        _ => define_header(alloc, root, section, key, what),
+        _ => {
+            *section = define_header(alloc, root, key, what)?;
+            Ok(())
+        }
     }
 }
 
@@ -94,25 +98,22 @@ fn define_pair(
     )
 }
 
-// Adds the table of a header, which becomes the section.
+// Adds the table of a header, whose key is the section that follows.
+#[tactic(auto, unfolding(crate::specs::Table::along))]
 fn define_header(
     alloc: Global,
     root: &mut Members,
-    section: &mut Vec<Part>,
     key: KeyParts,
     what: Definition,
-) -> Result<(), Refusal>
-    ensures grown { Grows root.old root.new result (tables.along implicit (path_of key.path.items)
-        (tables.at_part (part_of key.last) (definition_of what))) }
-    ensures section { OnOk result
-        (path_of section.new.items ≡ path_of key.path.items ++ (part_of key.last ∷ [])) }
+) -> Result<Vec<Part>, Refusal>
+    ensures { Gives (λ section. walk_from root.new section.items) result
+        (spec.walk_to (branches_of root.old) (parts_of key) (definition_of what)) }
 {
     let KeyParts { mut path, last } = key;
     let copy = copy_of(&last)?;
     along(alloc, root, Origin::Implicit, &path, &[], copy, what)?;
     path.push(last)?;
-    *section = path;
-    Ok(())
+    Ok(path)
 }
 
 fn copy_of(part: &Part) -> Result<Part, AllocError>
@@ -125,6 +126,7 @@ fn copy_of(part: &Part) -> Result<Part, AllocError>
 }
 
 // A statement that has its line to itself.
+#[tactic(auto, unfolding(crate::specs::Document::statement_line))]
 fn statement_line(alloc: Global, text: &str) -> Result<((KeyParts, Definition), &str), Refusal>
     ensures value { Reads statement_of result (spec.statement_line text.now) }
     ensures shorter { Shortens text.now result }
@@ -139,6 +141,7 @@ fn statement_line(alloc: Global, text: &str) -> Result<((KeyParts, Definition), 
 }
 
 // A header or a pair.
+#[tactic(auto, unfolding(crate::specs::Document::statement))]
 fn statement(alloc: Global, text: &str) -> Result<((KeyParts, Definition), &str), Refusal>
     ensures value { Reads statement_of result (spec.statement text.now) }
     ensures shorter { Shortens text.now result }
@@ -153,13 +156,13 @@ fn statement(alloc: Global, text: &str) -> Result<((KeyParts, Definition), &str)
         let (key, rest) = header_key(alloc, skip(text, 1))?;
         Ok(((key, Definition::Table), rest))
     } else {
-        let (key, at_value) = key_equals(alloc, text)?;
-        let (value, rest) = value(alloc, at_value, RECURSION_LIMIT)?;
+        let ((key, value), rest) = pair(alloc, text, RECURSION_LIMIT)?;
         Ok(((key, Definition::Pair(value)), rest))
     }
 }
 
 // The key of a header and its first closing bracket.
+#[tactic(auto, unfolding(crate::specs::Document::header_parts))]
 fn header_key(alloc: Global, text: &str) -> Result<(KeyParts, &str), Refusal>
     ensures value { Reads parts_of result (spec.header_parts text.now) }
     ensures shorter { Shortens text.now result }

@@ -51,6 +51,7 @@ pub(crate) fn parts(alloc: Global, text: &str) -> Result<(KeyParts, &str), Refus
 }
 
 // A part of a key: bare, or a string of one line.
+#[tactic(auto, unfolding(toml_parser::specs::Strings::simple_key))]
 fn simple_key(alloc: Global, text: &str) -> Result<(String, &str), Refusal>
     ensures value { Reads string_bytes result (grammar.simple_key text.now) }
     ensures shorter { Shortens text.now result }

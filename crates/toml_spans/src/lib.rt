@@ -19,5 +19,5 @@ pub use front::place_after;
 pub use index::Index;
 pub use line::line_after;
 pub use place::{Place, Span};
-pub use quoted_text::{QuotedText, quoted, write_by_code, write_quoted};
+pub use quoted_text::{QuotedText, letter_escape, quoted, write_quoted, write_visible};
 pub use step::{NameText, PathText, Step, is_bare_key};

@@ -1,8 +1,8 @@
 //! Texts between double quotes, with control characters escaped.
 
-ghost use Rattle.std.specs.Prelude.{◌≡◌, IfOk, Some, string_bytes};
+ghost use Rattle.std.specs.Prelude.{◌≡◌, IfOk, Some, option_map, string_bytes};
 ghost use Rattle.std.specs.Fmt.{WritesOnOk, WritesStyledOnOk};
-ghost use Rattle.toml_spans.specs.QuotedText.{by_code, quoted_character, quoted_text, unnamed_character};
+ghost use Rattle.toml_spans.specs.QuotedText.{by_code, letter_escape, quoted_character, quoted_text, visible_character};
 
 use std::alloc::{AllocError, Global};
 use std::fmt;
@@ -40,31 +40,45 @@ fn write_escaped<W: fmt::Write>(f: &mut fmt::Formatter<W>, c: char) -> fmt::Resu
     match c {
         '"' => f.write_str("\\\""),
         '\\' => f.write_str("\\\\"),
-        '\n' => f.write_str("\\n"),
-        '\r' => f.write_str("\\r"),
-        '\t' => f.write_str("\\t"),
-        '\0' => f.write_str("\\0"),
-        c => write_unnamed(f, c),
+        c => write_visible(f, c.is_control(), c),
     }
 }
 
-// A character with no escape of its own.
-fn write_unnamed<W: fmt::Write>(f: &mut fmt::Formatter<W>, c: char) -> fmt::Result
-    ensures writes { WritesOnOk W.write_str_gives f.old result (unnamed_character c) f.new }
-    ensures styled { WritesStyledOnOk W.write_str_gives f.old result (unnamed_character c) f.new }
+/// Writes a character: by its letter, by its code where it is `hidden`, else as it is.
+pub fn write_visible<W: fmt::Write>(f: &mut fmt::Formatter<W>, hidden: bool, c: char) -> fmt::Result
+    ensures writes { WritesOnOk W.write_str_gives f.old result (visible_character hidden c) f.new }
+    ensures styled { WritesStyledOnOk W.write_str_gives f.old result
+        (visible_character hidden c) f.new }
 {
-    if c.is_control() {
+    if let Some(escape) = letter_escape(c) {
+        f.write_str(escape)
+    } else if hidden {
         write_by_code(f, c)
     } else {
         f.write_char(c)
     }
 }
 
-/// Writes a character by its code in hexadecimal, as `\u{7f}`.
-pub fn write_by_code<W: fmt::Write>(f: &mut fmt::Formatter<W>, c: char) -> fmt::Result
+/// The escape by a letter of a line feed, a carriage return or a tab; of another character, `None`.
+pub fn letter_escape(c: char) -> Option<&'static str>
+    ensures { option_map (λ text. text.now) result ≡ letter_escape c }
+{
+    match c {
+        '\n' => Some("\\n"),
+        '\r' => Some("\\r"),
+        '\t' => Some("\\t"),
+        _ => None,
+    }
+}
+
+// Writes a character by its code, as Rust has it: `\0` or `\u{7f}`.
+fn write_by_code<W: fmt::Write>(f: &mut fmt::Formatter<W>, c: char) -> fmt::Result
     ensures writes { WritesOnOk W.write_str_gives f.old result (by_code c) f.new }
     ensures styled { WritesStyledOnOk W.write_str_gives f.old result (by_code c) f.new }
 {
+    if c == '\0' {
+        return f.write_str("\\0");
+    }
     for mark in c.escape_unicode() {
         f.write_char(mark)?;
     }

@@ -25,8 +25,8 @@ pub(crate) enum Definition {
     Element,
 }
 
-/// Follows a path, then dots as a dotted key does, and defines the last part there. A path makes the
-/// tables that are missing, by a header on its way or by a dotted key.
+/// Follows a path, then dots as a dotted key does, and defines the last part there. A path makes
+/// the tables that are missing, by a header on its way or by a dotted key.
 #[cycle(along)]
 pub(crate) fn along(
     alloc: Global,

@@ -17,9 +17,25 @@ use std::collections::BTreeMap;
 use toml_parser::text::{first, skip, skip_blank, skip_ws};
 use toml_parser::{quoted, starts_string, unquoted};
 
-/// A value from the front of a text, with arrays and inline tables at most this deep.
+/// A key and its value, with arrays and inline tables at most this deep.
 #[cycle(value)]
-pub(crate) fn value(alloc: Global, text: &str, depth: usize) -> Result<(Entry, &str), Refusal>
+pub(crate) fn pair(
+    alloc: Global,
+    text: &str,
+    depth: usize,
+) -> Result<((KeyParts, Entry), &str), Refusal>
+    ensures value { Reads (λ pair. (parts_of pair.0, tree_of pair.1)) result
+        (spec.pair_tree (spec.value_tree depth) text.now) }
+    ensures shorter { Shortens text.now result }
+{
+    let (key, at_value) = key_equals(alloc, text)?;
+    let (value, rest) = value(alloc, at_value, depth)?;
+    Ok(((key, value), rest))
+}
+
+// A value from the front of a text, with arrays and inline tables at most this deep.
+#[cycle(value)]
+fn value(alloc: Global, text: &str, depth: usize) -> Result<(Entry, &str), Refusal>
     ensures value { Reads tree_of result (spec.value_tree depth text.now) }
     ensures shorter { Shortens text.now result }
 {
@@ -93,14 +109,14 @@ fn members(alloc: Global, text: &str, depth: usize) -> Result<(Members, &str), R
         if first(start) == b'}' {
             return Ok((found, skip(start, 1)));
         }
-        let (key, at_value) = key_equals(alloc, start)?;
-        let (member, after) = value(alloc, at_value, depth)?;
+        let ((key, member), after) = pair(alloc, start, depth)?;
         put(alloc, &mut found, key, member)?;
         rest = past_element(after, b'}')?;
     }
 }
 
 // What follows an element and its comma, or begins with the closing bracket.
+#[tactic(auto, unfolding(toml::specs::Parse::after_element))]
 fn past_element(text: &str, closing: u8) -> Result<&str, Refusal>
     ensures value { Gives (λ rest. rest.now) result (grammar.after_element closing text.now) }
     ensures within { IfOk result (λ rest. length rest.now ≤ length text.now) }
@@ -115,8 +131,9 @@ fn past_element(text: &str, closing: u8) -> Result<&str, Refusal>
     }
 }
 
-/// A key, `=` and the white space after it.
-pub(crate) fn key_equals(alloc: Global, text: &str) -> Result<(KeyParts, &str), Refusal>
+// A key, `=` and the white space after it.
+#[tactic(auto, unfolding(crate::specs::Value::parts_equals))]
+fn key_equals(alloc: Global, text: &str) -> Result<(KeyParts, &str), Refusal>
     ensures value { Reads parts_of result (spec.parts_equals text.now) }
     ensures shorter { Shortens text.now result }
 {

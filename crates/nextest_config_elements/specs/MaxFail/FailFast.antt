@@ -8,7 +8,7 @@ use Rattle.nextest_config_values.specs.Decisions.{IsDecided, same_text_decided}
 use Rattle.nextest_config_values.specs.Once.{HasMeaningOrFault}
 use Rattle.nextest_config_values.specs.Read.Plain.{count_decided}
 use Rattle.nextest_config_values.specs.Read.{in_range, IsCount, kind, made_of, only, or_default, Reading, required, then, value_of, word_reading, wrong_kind, wrong_value}
-use Rattle.nextest_config_elements.specs.Fields.{allowed, allowed_or, field, Fields, needed, no_fields, nothing, text_taken}
+use Rattle.nextest_config_elements.specs.Fields.{allowed_or, default_text, Fields, needed, no_fields, plain}
 use Rattle.nextest_config_elements.specs.FromTable.{set_by_table}
 use Rattle.nextest_config_elements.specs.IntegerLaws.{fits_decided, not_both}
 use Rattle.nextest_config_elements.specs.MaxFail.Limit.{fail_fast_limit, mode_word}
@@ -30,13 +30,6 @@ max_fail_key = codes "max-fail"
 -- the key of how running tests are treated once the limit is reached
 abbrev pub terminate_key : List ℕ
 terminate_key = codes "terminate"
-
--- the fields of the table `fail-fast`
-abbrev pub fail_fast_fields : Fields
-fail_fast_fields =
-    field (needed max_fail_key shapes.MaxFail Error) nothing
-    (field (allowed_or terminate_key shapes.TerminateMode Error
-    (text_taken (codes "wait"))) nothing no_fields)
 
 -- what `fail-fast` takes, as a refusal says it
 abbrev pub fail_fast_expected : List ℕ
@@ -152,6 +145,13 @@ abbrev pub fail_fast_table : Reading Members MaxFail
 fail_fast_table =
     then (required max_fail_key max_fail_reading) (λ count.
     made_of (limit_of count) (or_default terminate_key Wait terminate_reading))
+
+-- the fields of the table `fail-fast`
+abbrev pub fail_fast_fields : Fields
+fail_fast_fields =
+    plain (needed max_fail_key shapes.MaxFail Error)
+    (plain (allowed_or terminate_key shapes.TerminateMode Error (default_text (codes "wait")))
+    no_fields)
 
 -- the reading of `fail-fast`: a boolean, or a table, either of which sets a limit (TOML 1.1,
 -- "Boolean" and "Table")

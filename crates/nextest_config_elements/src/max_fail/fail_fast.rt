@@ -2,13 +2,14 @@
 
 ghost use Rattle.std.specs.Prelude.{◌≡◌, IfErr, IfOk};
 ghost use Rattle.toml.specs.View.{view};
-ghost use Rattle.nextest_config_values.specs.Read.{RefusesAt, RefusesBy};
+ghost use Rattle.nextest_config_values.specs.Read.{RefusesAt};
 ghost use Rattle.nextest_config_elements.specs.MaxFail.{fail_fast_reading, fail_fast_table, IsExpected, limit_of, max_fail_reading};
 
 use super::{MaxFail, TerminateMode};
-use crate::field::{Absent, Field, Literal, Shape};
+use crate::field::Absent::Taken;
+use crate::field::{Field, Literal, Shape, field};
 use crate::from_table::{FromTable, read_set};
-use crate::purpose::Purpose;
+use crate::profile_setting::{ProfileSetting, read_at};
 use nextest_config_values::read::{FromToml, ReadFault, ValueFault, or_default, required};
 use std::alloc::Global;
 use toml::{Table, Value};
@@ -31,40 +32,30 @@ pub fn deserialize_fail_fast(
     ensures meant { IfOk result (fail_fast_reading.means (view value.now)) }
     ensures refused { IfErr result (RefusesAt fail_fast_reading (view value.now) at.now) }
 {
-    match read_fail_fast(alloc, value) {
-        Ok(limit) => Ok(limit),
-        Err(fault) => Err(fault.at(alloc, at)),
-    }
+    read_at(alloc, value, at)
 }
 
-/// Reads the setting `fail-fast`, as [`deserialize_fail_fast`] does, wherever it stands.
-pub fn read_fail_fast(alloc: Global, value: &Value) -> Result<Option<MaxFail>, ValueFault>
-    ensures meant { IfOk result (fail_fast_reading.means (view value.now)) }
-    ensures refused { IfErr result (RefusesBy fail_fast_reading (view value.now)) }
-{
-    if let Some(fail_fast) = value.as_bool() {
-        return Ok(Some(MaxFail::from_fail_fast(fail_fast)));
+impl ProfileSetting for MaxFail {
+    ghost Seen = { Self };
+
+    ghost seen = { λ limit. limit };
+
+    ghost reading = { fail_fast_reading };
+
+    fn read_setting(alloc: Global, value: &Value) -> Result<Option<Self>, ValueFault> {
+        if let Some(fail_fast) = value.as_bool() {
+            return Ok(Some(MaxFail::from_fail_fast(fail_fast)));
+        }
+        read_set(alloc, value, EXPECTED)
     }
-    read_set(alloc, value, EXPECTED)
 }
 
 impl MaxFail {
     /// The fields of the table `fail-fast`.
     pub const FIELDS: &'static [Field] = &[
-        Field {
-            key: MAX_FAIL_KEY,
-            shape: Shape::MaxFail,
-            required: true,
-            purpose: Purpose::FailFastMaxFail,
-            ..Field::READ
-        },
-        Field {
-            key: TERMINATE_KEY,
-            shape: Shape::TerminateMode,
-            absent: Absent::Taken(Literal::Text("wait")),
-            purpose: Purpose::FailFastTerminate,
-            ..Field::READ
-        },
+        field!(MAX_FAIL_KEY: Shape::MaxFail, FailFastMaxFail, required: true),
+        field!(TERMINATE_KEY: Shape::TerminateMode, FailFastTerminate,
+            absent: Taken(Literal::Text("wait"))),
     ];
 }
 

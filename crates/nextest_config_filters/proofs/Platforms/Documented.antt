@@ -1,71 +1,41 @@
--- Nothing is told of a documented platform: what leads on, and what is read of words.
-use Rattle.std.proofs.Common.{◌≡◌, ℕ, Bool, true, false, List, [], ◌∷◌, ◌++◌, nat_eq, Some, None, refl, sym, ap, ◌∙◌, subst, inl, inr, eqb-true}
+-- Nothing is reported of a documented platform: what leads on, and what is read of words.
+use Rattle.std.proofs.Common.{◌≡◌, ℕ, true, false, List, [], ◌∷◌, ◌++◌, nat_eq, Some, None, refl, sym, ap, ◌∙◌, inl, inr, eqb-true}
 use Rattle.std.specs.Prelude.{◌==◌, ◌&&◌, ◌||◌, ◌⊎◌, codes}
 use Rattle.std.proofs.lemmas.Bool.{cases_Bool}
 use Rattle.std.proofs.lemmas.Bool.Decides.{nat_tests}
 use Rattle.std.proofs.Common.{arith}
 use Rattle.std.specs.Char.{is_ascii_digit, is_whitespace}
 use Rattle.std.specs.Cmp.Lexicographic.{pointwise, same_text}
-use Rattle.std.specs.List.{AllByRecursion}
+use Rattle.std.specs.List.{AllByRecursion, list_all}
 use Rattle.std.specs.Str.{skip_leading_whitespace as behind_spaces}
 use Rattle.toml_spans.specs.Characters.{double_quote}
 use Rattle.nextest_config_filters.specs.Front.{begins, begins_key, behind_run, closing, comma, in_key, in_run, number_sign, run}
-use Rattle.nextest_config_filters.specs.Platform.Grammar.{AreSpaces, IsKey, IsValueOf}
-use Rattle.nextest_config_filters.specs.Platform.Key.{are_digits, families, groups, is_number, is_one_of, is_wrong_width, key_flaw}
-use Rattle.nextest_config_filters.specs.Platform.Reading.{is_raw, read, read_follower, read_group, read_key, read_word, reading_at, takes_member}
-use Rattle.nextest_config_filters.specs.Platform.Told.{member}
-use Rattle.nextest_config_filters.specs.Platform.Walk.{IsWalked, Leads, next, next_of, Outcome, outcome_at, outcome_of, State, stays, steps}
+use Rattle.nextest_config_filters.specs.Platform.Grammar.{AreSpaces, IsIdentifier, IsKey, IsValueOf}
+use Rattle.nextest_config_filters.specs.Platform.Key.{families, groups, is_number, is_wrong_width, key_flaw}
+use Rattle.nextest_config_filters.specs.Platform.Member.{is_raw, read, read_follower, read_group, read_key, read_word, reading_at, takes_member}
+use Rattle.nextest_config_filters.specs.Platform.Reading.{member}
+use Rattle.nextest_config_filters.specs.Platform.Walk.{Finds, next, next_of, Outcome, outcome_at, outcome_of, State}
+use Rattle.nextest_config_filters.specs.Text.{is_one_of}
 use Rattle.nextest_config_filters.specs.declared.front.Run.TheVariants as runs
-use Rattle.nextest_config_filters.specs.declared.platform.told.After.{After}
-use Rattle.nextest_config_filters.specs.declared.platform.told.Level.{Level}
-use Rattle.nextest_config_filters.proofs.Fronts.{run_whole}
+use Rattle.nextest_config_filters.specs.declared.platform.reading.After.{After}
+use Rattle.nextest_config_filters.specs.declared.platform.reading.Level.{Level}
+use Rattle.nextest_config_filters.proofs.Fronts.{run_over}
+use Rattle.nextest_config_filters.proofs.Steps.{alike as walked_alike}
+use Rattle.nextest_config_filters.proofs.Tests.{and_false, differs}
 
 -- ---- what is found behind a state
 
-module _ (found : Outcome) where
-  -- it is found behind the next one
-  on_leads : (from to over : State) → Leads from to → next to ≡ None → outcome_at to ≡ found → next from ≡ Some over
-      → IsWalked over found
-  on_leads from to over (stays s) stops finds onwards = cc (stops, onwards)
-  on_leads from to over (steps f t u one more) stops finds onwards =
-      let same : t ≡ over = cc (one, onwards) in
-      record { state = u; leads = subst (λ s. Leads s u) same more; over = stops; finds = finds }
+abbrev pub at : After → Level → List Level → List ℕ → State
+at before level outer cs = record { before = before; level = level; outer = outer; rest = cs }
 
-  pub onwards : (from over : State) → next from ≡ Some over → IsWalked from found → IsWalked over found
-  onwards from over on is = on_leads from is.state over is.leads is.over is.finds on
-
-  -- or it is found there, where it goes on no more
-  off_leads : (from to : State) → Leads from to → outcome_at to ≡ found → next from ≡ None → outcome_at from ≡ found
-  off_leads from to (stays s) finds stops = finds
-  off_leads from to (steps f t u one more) finds stops = cc (one, stops)
-
-  pub stuck : (from : State) → next from ≡ None → IsWalked from found → outcome_at from ≡ found
-  stuck from stops is = off_leads from is.state is.leads is.finds stops
-
-  module _ (before : After) (level : Level) (outer : List Level) where
-    abbrev pub at : List ℕ → State
-    at cs = record { before = before; level = level; outer = outer; rest = cs }
-
-    alike_leads : (cs ds : List ℕ) (from to : State) → reading_at before cs ≡ reading_at before ds → from ≡ at cs
-        → Leads from to → next to ≡ None → outcome_at to ≡ found → IsWalked (at ds) found
-    alike_leads cs ds from to same from_is (stays s) stops finds = record {
-      state = at ds;
-      leads = stays (at ds);
-      over = ap (λ r. next_of r level outer) (sym same) ∙ ap next (sym from_is) ∙ stops;
-      finds = ap (λ r. outcome_of r before level outer) (sym same) ∙ ap outcome_at (sym from_is) ∙ finds;
-    }
-    alike_leads cs ds from to same from_is (steps f t u one more) stops finds = record {
-      state = u;
-      leads = steps (at ds) t u (ap (λ r. next_of r level outer) (sym same) ∙ ap next (sym from_is) ∙ one) more;
-      over = stops;
-      finds = finds;
-    }
-
-    -- where the same stands behind spaces
-    pub alike : (cs ds : List ℕ) → behind_spaces cs ≡ behind_spaces ds → IsWalked (at cs) found → IsWalked (at ds) found
-    unfolding reading_at
-    alike cs ds same is =
-        alike_leads cs ds (at cs) is.state (ap (read before) same) refl is.leads is.over is.finds
+-- where the same stands behind spaces, the same is found
+pub alike : (found : Outcome) (before : After) (level : Level) (outer : List Level) (cs ds : List ℕ)
+    → behind_spaces cs ≡ behind_spaces ds → Finds (at before level outer cs) found → Finds (at before level outer ds) found
+unfolding reading_at
+alike found before level outer cs ds same is =
+    let reading = ap (read before) same in
+    walked_alike next outcome_at found (at before level outer cs) (at before level outer ds)
+    (ap (λ r. next_of r level outer) reading) (ap (λ r. outcome_of r before level outer) reading) is
 
 -- ---- spaces
 
@@ -132,20 +102,6 @@ tail_begins cs tail =
 
 -- ---- words
 
-pub record IsWordText (word : List ℕ) : Type 0 where
-  pub first : ℕ
-  pub others : List ℕ
-  pub whole : word ≡ first ∷ others
-  pub begins : begins_key first ≡ true
-  pub goes_on : AllByRecursion (λ c. in_key c ≡ true) others
-
-run_over : (word rest : List ℕ) → AllByRecursion (λ c. in_key c ≡ true) word → run in_key rest ≡ []
-    → (run in_key (word ++ rest) ≡ word) × (behind_run in_key (word ++ rest) ≡ rest)
-run_over [] rest all none = (none, ap (λ r. r ++ behind_run in_key rest) (sym none) ∙ run_whole in_key rest)
-run_over (c ∷ word) rest all none =
-    let inner = run_over word rest all.1 none in
-    rw all.0 (ap (λ w. c ∷ w) inner.0, inner.1)
-
 no_sign_in : (others rest : List ℕ) → AllByRecursion (λ c. in_key c ≡ true) others → begins number_sign rest ≡ false
     → begins number_sign (others ++ rest) ≡ false
 no_sign_in [] rest all none = none
@@ -154,19 +110,15 @@ no_sign_in (c ∷ others) rest all none = elim (cases_Bool (number_sign == c)) [
   | inl same ↦ let no : true ≡ false = sym all.0 ∙ ap in_key (sym (eqb-true number_sign c same)) in cc no
 ]
 
-pub and_false : (b : Bool) → (b && false) ≡ false
-and_false true = refl
-and_false false = refl
-
-module _ (word rest : List ℕ) (is : IsWordText word) (behind : Follows rest) where
+module _ (word rest : List ℕ) (is : IsIdentifier word) (behind : Follows rest) where
   all_in : AllByRecursion (λ c. in_key c ≡ true) word
   all_in = rw is.whole (ap (λ b. b || is_ascii_digit is.first) is.begins, is.goes_on)
 
   pub word_run : run in_key (word ++ rest) ≡ word
-  word_run = (run_over word rest all_in behind.no_key).0
+  word_run = (run_over in_key word rest all_in behind.no_key).0
 
   pub word_behind : behind_run in_key (word ++ rest) ≡ rest
-  word_behind = (run_over word rest all_in behind.no_key).1
+  word_behind = (run_over in_key word rest all_in behind.no_key).1
 
   raw_none : is_raw is.first (is.others ++ rest) ≡ false
   raw_none =
@@ -192,16 +144,7 @@ module _ (word rest : List ℕ) (is : IsWordText word) (behind : Follows rest) w
   key_reading before takes other =
       word_read before takes ∙ rw (word_run, word_behind, other) refl
 
-pub key_text : (key : List ℕ) → IsKey key → IsWordText key
-key_text key is = record { first = is.first; others = is.others; whole = is.whole; begins = is.begins; goes_on = is.goes_on }
-
 -- ---- values
-
-differs : (a b : ℕ) → (a ≡ b → ⊥) → (a == b) ≡ false
-differs a b other = elim (cases_Bool (a == b)) [
-  | inl same ↦ absurd (other (eqb-true a b same))
-  | inr not_same ↦ not_same
-]
 
 pub value_run : (value rest : List ℕ) → AllByRecursion (λ c. c ≡ double_quote → ⊥) value
     → (run (in_run runs.Value) (value ++ (double_quote ∷ rest)) ≡ value)
@@ -211,7 +154,7 @@ value_run (c ∷ value) rest all =
     let inner = value_run value rest all.1 in
     rw (differs c double_quote all.0) (ap (λ v. c ∷ v) inner.0, inner.1)
 
-all_digits : (value : List ℕ) → AllByRecursion (λ c. is_ascii_digit c ≡ true) value → are_digits value ≡ true
+all_digits : (value : List ℕ) → AllByRecursion (λ c. is_ascii_digit c ≡ true) value → list_all is_ascii_digit value ≡ true
 all_digits [] all = refl
 all_digits (c ∷ value) all = rw all.0 (all_digits value all.1)
 

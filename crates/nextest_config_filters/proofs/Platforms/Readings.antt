@@ -1,27 +1,29 @@
 -- What is read of `cfg(..)` leaves a rest of it.
-use Rattle.std.proofs.Common.{◌≡◌, ℕ, ◌≤◌, Bool, true, false, List, [], ◌∷◌, Option, Some, None, refl, sym, ap, subst, inl, inr, arith, eqb-true}
+use Rattle.std.proofs.Common.{◌≡◌, ℕ, ◌≤◌, true, List, [], ◌∷◌, Option, Some, None, refl, sym, ap, subst, inl, inr, arith, eqb-true}
 use Rattle.std.specs.Prelude.{◌==◌, ◌&&◌, ◌||◌, if◌then◌else◌}
 use Rattle.std.proofs.lemmas.Bool.{cases_Bool}
 use Rattle.std.specs.Char.{is_ascii_digit}
 use Rattle.std.specs.Str.{skip_leading_whitespace as behind_spaces}
 use Rattle.toml_spans.specs.Characters.{double_quote}
 use Rattle.nextest_config_filters.specs.Front.{begins_key, behind_run, bytes_of, closing, comma, equals_sign, in_key, in_run, IsRest, opening, run, without_first}
-use Rattle.nextest_config_filters.specs.Platform.Key.{groups, is_one_of, key_flaw}
-use Rattle.nextest_config_filters.specs.Platform.Reading.{behind_token, behind_value, is_end, is_follower, is_nothing, is_raw, level_at, read, read_closing, read_follower, read_group, read_judged, read_key, read_quoted, read_value, read_word, reading_at, takes_closing, takes_comma, takes_end, takes_member, unexpected, unexpected_value}
-use Rattle.nextest_config_filters.specs.Platform.Told.{closes, ends, member, opens, Reading, separates, tells, Told, told_bytes, told_to, unjudged}
+use Rattle.nextest_config_filters.specs.Platform.Key.{groups, key_flaw}
+use Rattle.nextest_config_filters.specs.Platform.Member.{behind_token, behind_value, is_end, is_follower, is_nothing, is_raw, level_at, read, read_closing, read_follower, read_group, read_judged, read_key, read_quoted, read_value, read_word, reading_at, takes_closing, takes_comma, takes_end, takes_member, unexpected, unexpected_value}
+use Rattle.nextest_config_filters.specs.Platform.Reading.{closes, ends, fault_between, fault_up_to, FaultAt, member, opens, Reading, reports, separates, unjudged}
+use Rattle.nextest_config_filters.specs.Text.{is_one_of}
 use Rattle.nextest_config_filters.specs.declared.front.Run.TheVariants as runs
 use Rattle.nextest_config_filters.specs.declared.platform.flaw.PlatformFlaw.{PlatformFlaw}
 use Rattle.nextest_config_filters.specs.declared.platform.flaw.PlatformFlaw.TheVariants as flaws
-use Rattle.nextest_config_filters.specs.declared.platform.told.After.{After}
-use Rattle.nextest_config_filters.specs.declared.platform.told.Level.{Level}
-use Rattle.nextest_config_filters.proofs.Readings.{first_true, rest_within, run_in, spaces_in}
-use Rattle.nextest_config_filters.proofs.Platforms.Rests.{behind_first, behind_on, behind_within, bytes_at, bytes_fit, bytes_within, IsBehind, IsBytes, rest_behind, token_rest, without_first_rest}
+use Rattle.nextest_config_filters.specs.declared.platform.reading.After.{After}
+use Rattle.nextest_config_filters.specs.declared.platform.reading.Level.{Level}
+use Rattle.nextest_config_filters.proofs.Fronts.{rest_behind, rest_within, run_in, spaces_in, without_first_rest}
+use Rattle.nextest_config_filters.proofs.Platforms.Rests.{behind_first, behind_on, behind_within, bytes_at, bytes_fit, bytes_within, IsBehind, IsBytes, token_rest}
+use Rattle.nextest_config_filters.proofs.Tests.{by_test, first_true}
 
--- what is told are bytes of the text
-pub record IsToldIn (cs : List ℕ) (told : Told) : Type 0 where
-  pub from : IsBytes cs told.from
-  pub behind : IsBytes cs told.behind
-  pub in_order : told.behind ≤ told.from
+-- what is reported are bytes of the text
+pub record IsReportedIn (cs : List ℕ) (reported : FaultAt) : Type 0 where
+  pub from : IsBytes cs reported.from
+  pub behind : IsBytes cs reported.behind
+  pub in_order : reported.behind ≤ reported.from
 
 -- and so are those of a level
 pub record IsLevelIn (cs : List ℕ) (level : Level) : Type 0 where
@@ -45,15 +47,15 @@ Leaves cs (opens level rest) = Opens cs level rest
 Leaves cs (closes closed) = IsRest cs closed × IsBehind cs (without_first closed)
 Leaves cs (ends rest) = IsRest cs rest
 Leaves cs unjudged = Unit {0}
-Leaves cs (tells told) = IsToldIn cs told
+Leaves cs (reports reported) = IsReportedIn cs reported
 
 -- ---- rests of rests
 
-pub told_within : (cs inner : List ℕ) (told : Told) → IsRest cs inner → IsToldIn inner told → IsToldIn cs told
-told_within cs inner told is told_in = record {
-  from = bytes_within cs inner told.from is told_in.from;
-  behind = bytes_within cs inner told.behind is told_in.behind;
-  in_order = told_in.in_order;
+pub reported_within : (cs inner : List ℕ) (reported : FaultAt) → IsRest cs inner → IsReportedIn inner reported → IsReportedIn cs reported
+reported_within cs inner reported is reported_in = record {
+  from = bytes_within cs inner reported.from is reported_in.from;
+  behind = bytes_within cs inner reported.behind is reported_in.behind;
+  in_order = reported_in.in_order;
 }
 
 pub level_within : (cs inner : List ℕ) (level : Level) → IsRest cs inner → IsLevelIn inner level → IsLevelIn cs level
@@ -77,18 +79,12 @@ leaves_within cs inner (closes closed) is left =
     (rest_within cs inner closed is left.0, behind_within cs inner (without_first closed) is left.1)
 leaves_within cs inner (ends rest) is left = rest_within cs inner rest is left
 leaves_within cs inner unjudged is left = tt
-leaves_within cs inner (tells told) is left = told_within cs inner told is left
-
--- by what a test says
-by_test : (cs : List ℕ) (test : Bool) (x y : Reading) → (test ≡ true → Leaves cs x) → (test ≡ false → Leaves cs y)
-    → Leaves cs (if test then x else y)
-by_test cs true x y left other = left refl
-by_test cs false x y left other = other refl
+leaves_within cs inner (reports reported) is left = reported_within cs inner reported is left
 
 -- ---- what isn't expected
 
-pub told_to_in : (cs rest : List ℕ) (flaw : PlatformFlaw) → IsRest cs rest → IsToldIn cs (told_to cs rest flaw)
-told_to_in cs rest flaw is =
+pub fault_up_to_in : (cs rest : List ℕ) (flaw : PlatformFlaw) → IsRest cs rest → IsReportedIn cs (fault_up_to cs rest flaw)
+fault_up_to_in cs rest flaw is =
     record { from = bytes_at cs cs ([], refl); behind = bytes_at cs rest is; in_order = bytes_fit cs rest is }
 
 pub value_rest : (cs rest : List ℕ) → behind_value cs ≡ Some rest → IsRest cs rest
@@ -104,26 +100,26 @@ value_rest cs rest is =
 
 leaves_value : (c : ℕ) (cs : List ℕ) (found : Option (List ℕ)) → behind_value cs ≡ found
     → Leaves (c ∷ cs) (unexpected_value found (c ∷ cs))
-leaves_value c cs None is = told_to_in (c ∷ cs) cs flaws.ValueNotClosed (c ∷ [], refl)
+leaves_value c cs None is = fault_up_to_in (c ∷ cs) cs flaws.ValueNotClosed (c ∷ [], refl)
 leaves_value c cs (Some rest) is =
-    told_to_in (c ∷ cs) rest flaws.Unexpected (rest_behind c cs rest (value_rest cs rest is))
+    fault_up_to_in (c ∷ cs) rest flaws.Unexpected (rest_behind c cs rest (value_rest cs rest is))
 
-place_in : (cs : List ℕ) → IsToldIn cs (told_bytes (bytes_of cs) (bytes_of cs) flaws.Unexpected)
+place_in : (cs : List ℕ) → IsReportedIn cs (fault_between (bytes_of cs) (bytes_of cs) flaws.Unexpected)
 place_in cs = record { from = bytes_at cs cs ([], refl); behind = bytes_at cs cs ([], refl); in_order = omega arith }
 
 leaves_unexpected : (cs : List ℕ) → Leaves cs (unexpected cs)
 leaves_unexpected [] = place_in []
 leaves_unexpected (c ∷ cs) =
-    let place = tells (told_bytes (bytes_of (c ∷ cs)) (bytes_of (c ∷ cs)) flaws.Unexpected) in
-    let token = tells (told_to (c ∷ cs) (behind_token c cs) flaws.Unexpected) in
+    let place = reports (fault_between (bytes_of (c ∷ cs)) (bytes_of (c ∷ cs)) flaws.Unexpected) in
+    let token = reports (fault_up_to (c ∷ cs) (behind_token c cs) flaws.Unexpected) in
     let end = if is_end c cs then place else token in
-    by_test (c ∷ cs) (is_raw c cs) unjudged
+    by_test (Leaves (c ∷ cs)) (is_raw c cs) unjudged
     (if c == double_quote then unexpected_value (behind_value cs) (c ∷ cs) else end)
     (λ raw. tt)
-    (λ other. by_test (c ∷ cs) (c == double_quote) (unexpected_value (behind_value cs) (c ∷ cs)) end
+    (λ other. by_test (Leaves (c ∷ cs)) (c == double_quote) (unexpected_value (behind_value cs) (c ∷ cs)) end
     (λ quote. leaves_value c cs (behind_value cs) refl)
-    (λ no_quote. by_test (c ∷ cs) (is_end c cs) place token (λ is. place_in (c ∷ cs))
-    (λ no_end. told_to_in (c ∷ cs) (behind_token c cs) flaws.Unexpected
+    (λ no_quote. by_test (Leaves (c ∷ cs)) (is_end c cs) place token (λ is. place_in (c ∷ cs))
+    (λ no_end. fault_up_to_in (c ∷ cs) (behind_token c cs) flaws.Unexpected
     (rest_behind c cs (behind_token c cs) (token_rest c cs)))))
 
 unexpected_at : (cs rest : List ℕ) → IsRest cs rest → Leaves cs (unexpected rest)
@@ -133,12 +129,12 @@ unexpected_at cs rest is = leaves_within cs rest (unexpected rest) is (leaves_un
 
 leaves_judged : (flaw : Option PlatformFlaw) (cs rest : List ℕ) → IsBehind cs rest → Leaves cs (read_judged flaw cs rest)
 leaves_judged None cs rest is = is
-leaves_judged (Some flaw) cs rest is = told_to_in cs (behind_run in_key cs) flaw (run_in in_key cs)
+leaves_judged (Some flaw) cs rest is = fault_up_to_in cs (behind_run in_key cs) flaw (run_in in_key cs)
 
 leaves_follower : (cs : List ℕ) (value : Option (List ℕ)) (rest : List ℕ) → IsBehind cs rest
     → Leaves cs (read_follower cs value rest)
 leaves_follower cs value rest is =
-    by_test cs (is_follower rest) (read_judged (key_flaw (run in_key cs) value) cs rest) (unexpected rest)
+    by_test (Leaves cs) (is_follower rest) (read_judged (key_flaw (run in_key cs) value) cs rest) (unexpected rest)
     (λ follows. leaves_judged (key_flaw (run in_key cs) value) cs rest is)
     (λ other. unexpected_at cs rest is.rest)
 
@@ -154,7 +150,7 @@ leaves_quoted cs (Some behind) quoted is found =
 leaves_key_value : (cs rest : List ℕ) → IsBehind cs rest → Leaves cs (read_value cs rest)
 leaves_key_value cs [] is = unexpected_at cs [] is.rest
 leaves_key_value cs (c ∷ rest) is =
-    by_test cs (c == double_quote) (read_quoted cs (behind_value rest) rest) (unexpected (c ∷ rest))
+    by_test (Leaves cs) (c == double_quote) (read_quoted cs (behind_value rest) rest) (unexpected (c ∷ rest))
     (λ quote. leaves_quoted cs (behind_value rest) rest
     (subst (λ d. IsBehind cs (d ∷ rest)) (eqb-true c double_quote quote) is) refl)
     (λ other. unexpected_at cs (c ∷ rest) is.rest)
@@ -162,7 +158,7 @@ leaves_key_value cs (c ∷ rest) is =
 leaves_key : (cs rest : List ℕ) → IsBehind cs rest → Leaves cs (read_key cs rest)
 leaves_key cs [] is = leaves_follower cs None [] is
 leaves_key cs (c ∷ rest) is =
-    by_test cs (c == equals_sign) (read_value cs (behind_spaces rest)) (read_follower cs None (c ∷ rest))
+    by_test (Leaves cs) (c == equals_sign) (read_value cs (behind_spaces rest)) (read_follower cs None (c ∷ rest))
     (λ equals. leaves_key_value cs (behind_spaces rest)
     (behind_on cs (c ∷ rest) (behind_spaces rest) is (rest_behind c rest (behind_spaces rest) (spaces_in rest))))
     (λ other. leaves_follower cs None (c ∷ rest) is)
@@ -171,7 +167,7 @@ leaves_group : (cs rest : List ℕ) → IsBehind cs rest → Leaves cs (read_gro
 leaves_group cs [] is = unexpected_at cs [] is.rest
 leaves_group cs (c ∷ opened) is =
     let inside = behind_on cs (c ∷ opened) opened is (c ∷ [], refl) in
-    by_test cs (c == opening) (opens (level_at cs (c ∷ opened)) opened) (unexpected (c ∷ opened))
+    by_test (Leaves cs) (c == opening) (opens (level_at cs (c ∷ opened)) opened) (unexpected (c ∷ opened))
     (λ begins. record {
       level_in = record {
         from = bytes_at cs cs ([], refl);
@@ -195,7 +191,7 @@ leaves_word : (c : ℕ) (cs : List ℕ) → begins_key c ≡ true → Leaves (c 
 leaves_word c cs begins =
     let behind = behind_run in_key (c ∷ cs) in
     let is = behind_on (c ∷ cs) behind (behind_spaces behind) (key_behind c cs begins) (spaces_in behind) in
-    by_test (c ∷ cs) (is_one_of (run in_key (c ∷ cs)) groups) (read_group (c ∷ cs) (behind_spaces behind))
+    by_test (Leaves (c ∷ cs)) (is_one_of (run in_key (c ∷ cs)) groups) (read_group (c ∷ cs) (behind_spaces behind))
     (read_key (c ∷ cs) (behind_spaces behind))
     (λ group. leaves_group (c ∷ cs) (behind_spaces behind) is)
     (λ key. leaves_key (c ∷ cs) (behind_spaces behind) is)
@@ -206,10 +202,10 @@ leaves_closing : (before : After) (cs : List ℕ) → Leaves (closing ∷ cs) (r
 leaves_closing before cs =
     let other = unexpected (closing ∷ cs) in
     let left = leaves_unexpected (closing ∷ cs) in
-    by_test (closing ∷ cs) (is_end closing cs) (if takes_end before then ends cs else other)
+    by_test (Leaves (closing ∷ cs)) (is_end closing cs) (if takes_end before then ends cs else other)
     (if takes_closing before then closes (closing ∷ cs) else other)
-    (λ end. by_test (closing ∷ cs) (takes_end before) (ends cs) other (λ takes. (closing ∷ [], refl)) (λ no. left))
-    (λ inner. by_test (closing ∷ cs) (takes_closing before) (closes (closing ∷ cs)) other
+    (λ end. by_test (Leaves (closing ∷ cs)) (takes_end before) (ends cs) other (λ takes. (closing ∷ [], refl)) (λ no. left))
+    (λ inner. by_test (Leaves (closing ∷ cs)) (takes_closing before) (closes (closing ∷ cs)) other
     (λ takes. (([], refl), behind_first closing cs cs ([], refl))) (λ no. left))
 
 leaves_read : (before : After) (cs : List ℕ) → Leaves cs (read before cs)
@@ -218,14 +214,14 @@ leaves_read before (c ∷ cs) =
     let other = unexpected (c ∷ cs) in
     let at_closing = if c == closing then read_closing before cs else other in
     let at_comma = if c == comma && takes_comma before then separates cs else at_closing in
-    by_test (c ∷ cs) (is_raw c cs) unjudged
+    by_test (Leaves (c ∷ cs)) (is_raw c cs) unjudged
     (if begins_key c && takes_member before then read_word (c ∷ cs) else at_comma)
     (λ raw. tt)
-    (λ no_raw. by_test (c ∷ cs) (begins_key c && takes_member before) (read_word (c ∷ cs)) at_comma
+    (λ no_raw. by_test (Leaves (c ∷ cs)) (begins_key c && takes_member before) (read_word (c ∷ cs)) at_comma
     (λ word. leaves_word c cs (first_true (begins_key c) (takes_member before) word))
-    (λ no_word. by_test (c ∷ cs) (c == comma && takes_comma before) (separates cs) at_closing
+    (λ no_word. by_test (Leaves (c ∷ cs)) (c == comma && takes_comma before) (separates cs) at_closing
     (λ is_comma. behind_first c cs cs ([], refl))
-    (λ no_comma. by_test (c ∷ cs) (c == closing) (read_closing before cs) other
+    (λ no_comma. by_test (Leaves (c ∷ cs)) (c == closing) (read_closing before cs) other
     (λ closes_one. subst (λ d. Leaves (d ∷ cs) (read_closing before cs)) (sym (eqb-true c closing closes_one)) (leaves_closing before cs))
     (λ no_closing. leaves_unexpected (c ∷ cs)))))
 

@@ -1,18 +1,10 @@
 -- Rests of a text, and their bytes.
 use Rattle.std.proofs.Common.{◌≡◌, ℕ, ◌+◌, ◌<◌, ◌≤◌, List, [], ◌∷◌, length, refl, ap, ◌∙◌, inl, inr, arith}
 use Rattle.std.proofs.lemmas.Bool.{cases_Bool}
-use Rattle.nextest_config_filters.specs.Front.{begins_key, bytes_of, in_key, is_doubled, IsRest, opening, without_first}
-use Rattle.nextest_config_filters.specs.Platform.Reading.{behind_token}
+use Rattle.nextest_config_filters.specs.Front.{begins_key, bytes_of, in_key, is_doubled, IsRest, opening}
+use Rattle.nextest_config_filters.specs.Platform.Member.{behind_token}
+use Rattle.nextest_config_filters.proofs.Fronts.{rest_behind, rest_fits, rest_within, run_in, without_first_rest}
 use Rattle.nextest_config_filters.proofs.Ranges.{bytes_joined}
-use Rattle.nextest_config_filters.proofs.Readings.{rest_fits, rest_within, run_in}
-
-pub without_first_rest : (cs : List ℕ) → IsRest cs (without_first cs)
-without_first_rest [] = ([], refl)
-without_first_rest (c ∷ cs) = (c ∷ [], refl)
-
--- a rest of what comes behind a character
-pub rest_behind : (c : ℕ) (cs rest : List ℕ) → IsRest cs rest → IsRest (c ∷ cs) rest
-rest_behind c cs rest is = (c ∷ is.0, ap (λ r. c ∷ r) is.1)
 
 pub token_rest : (c : ℕ) (cs : List ℕ) → IsRest cs (behind_token c cs)
 token_rest c cs = elim (cases_Bool (begins_key c)) [

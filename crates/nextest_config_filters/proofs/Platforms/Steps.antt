@@ -1,39 +1,23 @@
 -- Steps of a walk through `cfg(..)`.
-use Rattle.std.proofs.Common.{◌≡◌, ℕ, ◌+◌, ◌<◌, ◌≤◌, List, [], ◌∷◌, ◌++◌, length, Some, None, refl, sym, ap, ◌∙◌, subst, inl, inr, arith}
+use Rattle.std.proofs.Common.{◌≡◌, ℕ, ◌+◌, ◌<◌, ◌≤◌, List, [], ◌∷◌, ◌++◌, length, Some, None, refl, subst, inl, inr, arith}
 use Rattle.std.specs.Prelude.{codes, nat_lt, if◌then◌else◌}
 use Rattle.std.proofs.lemmas.Bool.{cases_Bool}
 use Rattle.std.specs.List.{AllByRecursion}
 use Rattle.nextest_config_filters.specs.Front.{behind, bytes_of, IsRest, opening, without_first}
-use Rattle.nextest_config_filters.specs.Platform.Reading.{reading_at}
-use Rattle.nextest_config_filters.specs.Platform.Told.{closes, ends, member, not_closed, not_open, opens, Reading, separates, tells, Told, told_level, unjudged}
-use Rattle.nextest_config_filters.specs.Platform.Walk.{is_miscounted, IsWalked, Leads, next, next_of, Outcome, outcome_at, outcome_end, outcome_of, outcome_whole, passes, start, State, stays, steps, with_group, with_member, wrong}
+use Rattle.nextest_config_filters.specs.Platform.Member.{reading_at}
+use Rattle.nextest_config_filters.specs.Platform.Reading.{closes, ends, fault_of_level, FaultAt, member, not_closed, not_open, opens, Reading, reports, separates, unjudged}
+use Rattle.nextest_config_filters.specs.Platform.Walk.{Finds, is_miscounted, next, next_of, outcome_end, outcome_of, outcome_whole, passes, start, State, with_group, with_member, wrong}
 use Rattle.nextest_config_filters.specs.declared.platform.flaw.PlatformFlaw.{PlatformFlaw}
 use Rattle.nextest_config_filters.specs.declared.platform.flaw.PlatformFlaw.TheVariants as flaws
-use Rattle.nextest_config_filters.specs.declared.platform.told.After.{After}
-use Rattle.nextest_config_filters.specs.declared.platform.told.After.TheVariants as after
-use Rattle.nextest_config_filters.specs.declared.platform.told.Level.{Level}
+use Rattle.nextest_config_filters.specs.declared.platform.reading.After.{After}
+use Rattle.nextest_config_filters.specs.declared.platform.reading.After.TheVariants as after
+use Rattle.nextest_config_filters.specs.declared.platform.reading.Level.{Level}
 use Rattle.nextest_config_filters.proofs.Characters.{behind_whole}
-use Rattle.nextest_config_filters.proofs.Readings.{rest_fits, rest_within}
-use Rattle.nextest_config_filters.proofs.Platforms.Rests.{bytes_at, bytes_fit, IsBehind, without_first_rest}
-use Rattle.nextest_config_filters.proofs.Platforms.Readings.{IsLevelIn, IsToldIn, Leaves, leaves_rest, level_within, told_to_in, told_within}
-
--- one step more
-pub leads_on : (from to over : State) → Leads from to → next to ≡ Some over → Leads from over
-leads_on from to over (stays s) onwards = steps from over over onwards (stays over)
-leads_on from to over (steps f t u one more) onwards = steps from t over one (leads_on t to over more onwards)
-
--- two ways from one state to where no step leads on end in the same
-one_end : (from a b : State) → Leads from a → next a ≡ None → Leads from b → next b ≡ None → a ≡ b
-one_end from a b (stays s) a_over (stays t) b_over = refl
-one_end from a b (stays s) a_over (steps f t u one more) b_over = cc (one, a_over)
-one_end from a b (steps f t u one more) a_over (stays s) b_over = cc (one, b_over)
-one_end from a b (steps f t u one more) a_over (steps g v w first others) b_over =
-    let same : t ≡ v = cc (one, first) in
-    one_end t a b more a_over (subst (λ s. Leads s b) (sym same) others) b_over
-
-pub walked_once : (from : State) (a b : Outcome) → IsWalked from a → IsWalked from b → a ≡ b
-walked_once from a b one other =
-    sym one.finds ∙ ap outcome_at (one_end from one.state other.state one.leads one.over other.leads other.over) ∙ other.finds
+use Rattle.nextest_config_filters.proofs.Fronts.{rest_fits, rest_within, without_first_rest}
+use Rattle.nextest_config_filters.proofs.Platforms.Readings.{fault_up_to_in, IsLevelIn, IsReportedIn, Leaves, leaves_rest, level_within, reported_within}
+use Rattle.nextest_config_filters.proofs.Platforms.Rests.{bytes_at, bytes_fit, IsBehind}
+use Rattle.nextest_config_filters.proofs.Steps.{kept_on}
+use Rattle.nextest_config_filters.proofs.Tests.{as_there}
 
 -- ---- what steps keep
 
@@ -104,17 +88,19 @@ module _ (cs : List ℕ) (before : After) (level : Level) (rest : List ℕ) wher
   abbrev at : List Level → State
   at outer = record { before = before; level = level; outer = outer; rest = rest }
 
+  -- what a step keeps, and that it leaves less
+  abbrev Keeps : State → Type 0
+  Keeps over = IsWithin cs over × (length over.rest < length rest)
+
   after_closing : (closed : List ℕ) (outer : List Level) (over : State) → IsWithin cs (at outer)
-      → Leaves rest (closes closed) → next_of (closes closed) level outer ≡ Some over
-      → IsWithin cs over × (length over.rest < length rest)
+      → Leaves rest (closes closed) → next_of (closes closed) level outer ≡ Some over → Keeps over
   after_closing closed [] over within leaves is = cc is
   after_closing closed (around ∷ outer) over within leaves is = elim (cases_Bool (is_miscounted level)) [
     | inl miscounted ↦ let no : None ≡ Some over = rw miscounted at is in cc no
     | inr counted ↦
         let left = without_first closed in
         let next_is : Some (record { before = after.Member; level = around; outer = outer; rest = left }) ≡ Some over = rw counted at is in
-        let same : over ≡ record { before = after.Member; level = around; outer = outer; rest = left } = cc next_is in
-        rw same (
+        as_there Keeps _ over next_is (
           record {
             rest = rest_within cs rest left within.rest leaves.1.rest;
             level = narrower cs rest left around leaves.1.rest within.outer.0;
@@ -125,10 +111,9 @@ module _ (cs : List ℕ) (before : After) (level : Level) (rest : List ℕ) wher
   ]
 
   after_reading : (reading : Reading) (outer : List Level) (over : State) → IsWithin cs (at outer) → Leaves rest reading
-      → next_of reading level outer ≡ Some over → IsWithin cs over × (length over.rest < length rest)
+      → next_of reading level outer ≡ Some over → Keeps over
   after_reading (separates left) outer over within leaves is =
-      let same : over ≡ record { before = after.Comma; level = level; outer = outer; rest = left } = cc is in
-      rw same (
+      as_there Keeps _ over is (
         record {
           rest = rest_within cs rest left within.rest leaves.rest;
           level = narrower cs rest left level leaves.rest within.level;
@@ -137,8 +122,7 @@ module _ (cs : List ℕ) (before : After) (level : Level) (rest : List ℕ) wher
         leaves.shorter,
       )
   after_reading (member left) outer over within leaves is =
-      let same : over ≡ record { before = after.Member; level = with_member level; outer = outer; rest = left } = cc is in
-      rw same (
+      as_there Keeps _ over is (
         record {
           rest = rest_within cs rest left within.rest leaves.rest;
           level = one_more cs rest left level leaves within.level;
@@ -147,9 +131,8 @@ module _ (cs : List ℕ) (before : After) (level : Level) (rest : List ℕ) wher
         leaves.shorter,
       )
   after_reading (opens inner left) outer over within leaves is =
-      let same : over ≡ record { before = after.Opening; level = inner; outer = with_group level outer ∷ outer; rest = left } = cc is in
       let left_in = rest_within cs rest left within.rest leaves.behind.rest in
-      rw same (
+      as_there Keeps _ over is (
         record {
           rest = left_in;
           level = record {
@@ -164,7 +147,7 @@ module _ (cs : List ℕ) (before : After) (level : Level) (rest : List ℕ) wher
   after_reading (closes closed) outer over within leaves is = after_closing closed outer over within leaves is
   after_reading (ends left) outer over within leaves is = cc is
   after_reading unjudged outer over within leaves is = cc is
-  after_reading (tells told) outer over within leaves is = cc is
+  after_reading (reports reported) outer over within leaves is = cc is
 
 pub next_within : (cs : List ℕ) (state over : State) → IsWithin cs state → next state ≡ Some over
     → IsWithin cs over × (length over.rest < length state.rest)
@@ -172,15 +155,11 @@ next_within cs state over within is =
     after_reading cs state.before state.level state.rest (reading_at state.before state.rest) state.outer over within
     (leaves_rest state.before state.rest) is
 
-pub within_on : (cs : List ℕ) (from to : State) → Leads from to → IsWithin cs from → IsWithin cs to
-within_on cs from to (stays s) within = within
-within_on cs from to (steps f t u one more) within = within_on cs t to more (next_within cs from t within one).0
+-- ---- what is reported stands in the text
 
--- ---- what is told stands in the text
-
-level_told : (cs rest left : List ℕ) (level : Level) (flaw : PlatformFlaw) → IsRest cs rest → IsOpenIn cs rest level
-    → IsRest rest left → IsToldIn cs (told_level level left flaw)
-level_told cs rest left level flaw is within left_is =
+level_reported : (cs rest left : List ℕ) (level : Level) (flaw : PlatformFlaw) → IsRest cs rest → IsOpenIn cs rest level
+    → IsRest rest left → IsReportedIn cs (fault_of_level level left flaw)
+level_reported cs rest left level flaw is within left_is =
     let bytes = bytes_fit rest left left_is in
     record {
       from = within.level_in.from;
@@ -188,69 +167,70 @@ level_told cs rest left level flaw is within left_is =
       in_order = omega (arith, within.around);
     }
 
-module _ (cs : List ℕ) (level : Level) (rest : List ℕ) (told : Told) (is_rest : IsRest cs rest) (open_in : IsOpenIn cs rest level) where
+module _ (cs : List ℕ) (level : Level) (rest : List ℕ) (reported : FaultAt) (is_rest : IsRest cs rest) (open_in : IsOpenIn cs rest level) where
   wrong_closing : (closed : List ℕ) (before : After) (outer : List Level) → Leaves rest (closes closed)
-      → outcome_of (closes closed) before level outer ≡ wrong told → IsToldIn cs told
+      → outcome_of (closes closed) before level outer ≡ wrong reported → IsReportedIn cs reported
   wrong_closing closed before [] leaves is =
-      let same : not_open closed ≡ told = cc is in
-      subst (IsToldIn cs) same
-      (told_within cs closed (not_open closed) (rest_within cs rest closed is_rest leaves.0)
-      (told_to_in closed (without_first closed) flaws.NotOpen (without_first_rest closed)))
+      let same : not_open closed ≡ reported = cc is in
+      subst (IsReportedIn cs) same
+      (reported_within cs closed (not_open closed) (rest_within cs rest closed is_rest leaves.0)
+      (fault_up_to_in closed (without_first closed) flaws.NotOpen (without_first_rest closed)))
   wrong_closing closed before (around ∷ outer) leaves is =
-      let what = told_level level (without_first closed) (flaws.NotMembers level.members) in
+      let what = fault_of_level level (without_first closed) (flaws.NotMembers level.members) in
       elim (cases_Bool (is_miscounted level)) [
         | inl miscounted ↦
-            let found : wrong what ≡ wrong told = rw miscounted at is in
-            let same : what ≡ told = cc found in
-            subst (IsToldIn cs) same
-            (level_told cs rest (without_first closed) level (flaws.NotMembers level.members) is_rest open_in leaves.1.rest)
-        | inr counted ↦ let no : passes ≡ wrong told = rw counted at is in cc no
+            let found : wrong what ≡ wrong reported = rw miscounted at is in
+            let same : what ≡ reported = cc found in
+            subst (IsReportedIn cs) same
+            (level_reported cs rest (without_first closed) level (flaws.NotMembers level.members) is_rest open_in leaves.1.rest)
+        | inr counted ↦ let no : passes ≡ wrong reported = rw counted at is in cc no
       ]
 
-  wrong_level : (left : List ℕ) (flaw : PlatformFlaw) → IsRest rest left → wrong (told_level level left flaw) ≡ wrong told
-      → IsToldIn cs told
+  wrong_level : (left : List ℕ) (flaw : PlatformFlaw) → IsRest rest left → wrong (fault_of_level level left flaw) ≡ wrong reported
+      → IsReportedIn cs reported
   wrong_level left flaw left_is is =
-      let same : told_level level left flaw ≡ told = cc is in
-      subst (IsToldIn cs) same (level_told cs rest left level flaw is_rest open_in left_is)
+      let same : fault_of_level level left flaw ≡ reported = cc is in
+      subst (IsReportedIn cs) same (level_reported cs rest left level flaw is_rest open_in left_is)
 
   wrong_many : (left : List ℕ) → IsRest rest left
-      → (if nat_lt 1 level.members then wrong (told_level level left flaws.ManyMembers) else passes) ≡ wrong told
-      → IsToldIn cs told
+      → (if nat_lt 1 level.members then wrong (fault_of_level level left flaws.ManyMembers) else passes) ≡ wrong reported
+      → IsReportedIn cs reported
   wrong_many left left_is is = elim (cases_Bool (nat_lt 1 level.members)) [
     | inl many ↦ wrong_level left flaws.ManyMembers left_is (rw many at is)
-    | inr few ↦ let no : passes ≡ wrong told = rw few at is in cc no
+    | inr few ↦ let no : passes ≡ wrong reported = rw few at is in cc no
   ]
 
-  wrong_whole : (before : After) (left : List ℕ) → IsRest rest left → outcome_whole before level left ≡ wrong told
-      → IsToldIn cs told
+  wrong_whole : (before : After) (left : List ℕ) → IsRest rest left → outcome_whole before level left ≡ wrong reported
+      → IsReportedIn cs reported
   wrong_whole after.Nothing left left_is is = wrong_level left flaws.NoMember left_is is
   wrong_whole after.Opening left left_is is = wrong_many left left_is is
   wrong_whole after.Comma left left_is is = wrong_many left left_is is
   wrong_whole after.Member left left_is is = wrong_many left left_is is
 
   wrong_end : (before : After) (outer : List Level) (left : List ℕ) → IsRest rest left
-      → outcome_end before level outer left ≡ wrong told → IsToldIn cs told
+      → outcome_end before level outer left ≡ wrong reported → IsReportedIn cs reported
   wrong_end before [] left left_is is = wrong_whole before left left_is is
   wrong_end before (around ∷ outer) left left_is is =
-      let same : not_closed level ≡ told = cc is in
-      subst (IsToldIn cs) same
+      let same : not_closed level ≡ reported = cc is in
+      subst (IsReportedIn cs) same
       (record { from = open_in.level_in.opening; behind = open_in.level_in.opened; in_order = open_in.level_in.inside })
 
   wrong_reading : (reading : Reading) (before : After) (outer : List Level) → Leaves rest reading
-      → outcome_of reading before level outer ≡ wrong told → IsToldIn cs told
+      → outcome_of reading before level outer ≡ wrong reported → IsReportedIn cs reported
   wrong_reading (separates left) before outer leaves is = cc is
   wrong_reading (member left) before outer leaves is = cc is
   wrong_reading (opens inner left) before outer leaves is = cc is
   wrong_reading (closes closed) before outer leaves is = wrong_closing closed before outer leaves is
   wrong_reading (ends left) before outer leaves is = wrong_end before outer left leaves is
   wrong_reading unjudged before outer leaves is = cc is
-  wrong_reading (tells t) before outer leaves is =
-      let same : t ≡ told = cc is in
-      subst (IsToldIn cs) same (told_within cs rest t is_rest leaves)
+  wrong_reading (reports t) before outer leaves is =
+      let same : t ≡ reported = cc is in
+      subst (IsReportedIn cs) same (reported_within cs rest t is_rest leaves)
 
-pub wrong_in : (cs : List ℕ) (from : State) (told : Told) → IsWithin cs from → IsWalked from (wrong told) → IsToldIn cs told
-wrong_in cs from told within walked =
+pub wrong_in : (cs : List ℕ) (from : State) (reported : FaultAt) → IsWithin cs from → Finds from (wrong reported)
+    → IsReportedIn cs reported
+wrong_in cs from reported within walked =
     let state = walked.state in
-    let at_state = within_on cs from state walked.leads within in
-    wrong_reading cs state.level state.rest told at_state.rest at_state.level (reading_at state.before state.rest)
+    let at_state = kept_on next (IsWithin cs) (λ s over here one. (next_within cs s over here one).0) from state walked.leads within in
+    wrong_reading cs state.level state.rest reported at_state.rest at_state.level (reading_at state.before state.rest)
     state.before state.outer (leaves_rest state.before state.rest) walked.finds

@@ -1,11 +1,11 @@
 -- The walk through `cfg(..)`, as the code has it.
 use Rattle.std.proofs.Common.{◌≡◌, ℕ, Bor, false, List, [], ◌∷◌, ◌++◌, length, Some, refl, sym, ap, ◌∙◌, arith, length-append}
 use Rattle.std.specs.Str.{chars}
-use Rattle.nextest_config_filters.specs.Platform.Reading.{reading_at}
+use Rattle.nextest_config_filters.specs.Platform.Member.{reading_at}
 use Rattle.nextest_config_filters.specs.Platform.Steps.{outermost_first, Shows}
 use Rattle.nextest_config_filters.specs.Platform.Walk.{is_miscounted, next_closed, State}
-use Rattle.nextest_config_filters.specs.declared.platform.told.After.TheVariants as after
-use Rattle.nextest_config_filters.specs.declared.platform.told.Level.{Level}
+use Rattle.nextest_config_filters.specs.declared.platform.reading.After.TheVariants as after
+use Rattle.nextest_config_filters.specs.declared.platform.reading.Level.{Level}
 use Rattle.nextest_config_filters.specs.declared.platform.walk.State.{State as OwnState}
 
 -- where a state is shown, what is read is the same

@@ -5,8 +5,9 @@ use Rattle.std.specs.Char.{is_ascii_digit, is_whitespace}
 use Rattle.std.specs.List.{AllByRecursion}
 use Rattle.toml_spans.specs.Characters.{double_quote}
 use Rattle.nextest_config_filters.specs.Front.{begins_key, closing, comma, equals_sign, in_key, opening}
-use Rattle.nextest_config_filters.specs.Platform.Key.{families, groups, is_one_of, is_unknown, needs_value, systems}
+use Rattle.nextest_config_filters.specs.Platform.Key.{families, groups, is_unknown, needs_value, systems}
 use Rattle.nextest_config_filters.specs.Platform.Outcome.{is_mark}
+use Rattle.nextest_config_filters.specs.Text.{is_one_of}
 
 -- white space
 abbrev pub AreSpaces : List ℕ → Type 0
@@ -14,13 +15,17 @@ AreSpaces = AllByRecursion (λ c. is_whitespace c ≡ true)
 
 -- ---- options
 
--- an identifier of ASCII characters that is the name of no group
-pub record IsKey (cs : List ℕ) : Type 0 where
+-- an identifier of ASCII characters
+pub record IsIdentifier (cs : List ℕ) : Type 0 where
   pub first : ℕ
   pub others : List ℕ
   pub whole : cs ≡ first ∷ others
   pub begins : begins_key first ≡ true
   pub goes_on : AllByRecursion (λ c. in_key c ≡ true) others
+
+-- one that is the name of no group, and nearly that of no key of a target
+pub record IsKey (cs : List ℕ) : Type 0 where
+  pub identifier : IsIdentifier cs
   pub no_group : is_one_of cs groups ≡ false
   pub known : is_unknown cs ≡ false
 
@@ -35,7 +40,8 @@ pub data IsOption : List ℕ → Type 0 where
   a_key : (key : List ℕ) → IsKey key → needs_value key ≡ false → IsOption key
   with_value : (key before behind value : List ℕ) → IsKey key → is_one_of key families ≡ false
       → AreSpaces before → AreSpaces behind → IsValueOf key value
-      → IsOption (key ++ (before ++ (equals_sign ∷ (behind ++ (double_quote ∷ (value ++ (double_quote ∷ [])))))))
+      → IsOption (key
+      ++ (before ++ (equals_sign ∷ (behind ++ (double_quote ∷ (value ++ (double_quote ∷ [])))))))
 
 -- ---- predicates
 
@@ -44,16 +50,18 @@ pub data Part : Type 0 where
   predicate : Part
   members : Part
 
--- a predicate is an option, `all(..)` or `any(..)` of members, or `not(..)` of a predicate; members are
--- predicates with commas between, and perhaps one behind the last. Spaces stand between any two tokens
+-- a predicate is an option, `all(..)` or `any(..)` of members, or `not(..)` of a predicate; members
+-- are predicates with commas between, and perhaps one behind the last. Spaces stand between any two
+-- tokens
 pub data Is : Part → List ℕ → Type 0 where
   an_option : (cs : List ℕ) → IsOption cs → Is predicate cs
   a_group : (name before inside : List ℕ) → (name ≡ codes "all") ⊎ (name ≡ codes "any")
       → AreSpaces before → Is members inside
       → Is predicate (name ++ (before ++ (opening ∷ (inside ++ (closing ∷ [])))))
-  a_negation : (before first cs last : List ℕ) → AreSpaces before → AreSpaces first → Is predicate cs
-      → AreSpaces last
-      → Is predicate (codes "not" ++ (before ++ (opening ∷ (first ++ (cs ++ (last ++ (closing ∷ [])))))))
+  a_negation : (before first cs last : List ℕ) → AreSpaces before → AreSpaces first
+      → Is predicate cs → AreSpaces last
+      → Is predicate (codes "not"
+      ++ (before ++ (opening ∷ (first ++ (cs ++ (last ++ (closing ∷ [])))))))
   no_member : (spaces : List ℕ) → AreSpaces spaces → Is members spaces
   last_member : (first cs last : List ℕ) → AreSpaces first → Is predicate cs → AreSpaces last
       → Is members (first ++ (cs ++ last))

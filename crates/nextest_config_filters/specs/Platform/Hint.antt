@@ -1,13 +1,13 @@
 -- What may be meant by what is found in a platform.
-use Rattle.std.specs.Prelude.{◌≡◌, ℕ, ◌&&◌, ◌⊎◌, Bool, true, false, List, ◌++◌, chars, codes, nat_eq, Option, Some, None, if◌then◌else◌}
-use Rattle.std.specs.Cmp.Lexicographic.{pointwise}
+use Rattle.std.specs.Prelude.{◌≡◌, ℕ, ◌&&◌, ◌⊎◌, Bool, true, false, List, [], ◌∷◌, ◌++◌, chars, codes, Option, Some, None}
 use Rattle.std.specs.Str.{skip_leading_whitespace as behind_spaces}
 use Rattle.nextest_config_values.specs.NearestWord.{IsNearest}
+use Rattle.nextest_config_filters.specs.Filter.Expression.{is_cased}
 use Rattle.nextest_config_filters.specs.Front.{begins, behind_run, in_key, opening, run}
 use Rattle.nextest_config_filters.specs.Platform.Key.{target_keys}
 use Rattle.nextest_config_filters.specs.Platform.Outcome.{IsOutcome}
 use Rattle.nextest_config_filters.specs.Platform.Walk.{passes}
-use Rattle.nextest_config_filters.specs.Reading.{is_cased}
+use Rattle.nextest_config_filters.specs.Text.{meant_by}
 use Rattle.nextest_config_filters.specs.declared.platform.flaw.PlatformFlaw.{PlatformFlaw}
 use Rattle.nextest_config_filters.specs.declared.platform.flaw.PlatformFlaw.TheVariants as flaws
 
@@ -17,14 +17,12 @@ in_cfg text = codes "cfg(" ++ (text ++ codes ")")
 
 -- what is written in other characters
 abbrev pub sign_hint : List ℕ → Option (List ℕ)
-sign_hint found =
-    if pointwise nat_eq found (codes "&") then Some (codes "all(.., ..)")
-    else if pointwise nat_eq found (codes "&&") then Some (codes "all(.., ..)")
-    else if pointwise nat_eq found (codes "|") then Some (codes "any(.., ..)")
-    else if pointwise nat_eq found (codes "||") then Some (codes "any(.., ..)")
-    else if pointwise nat_eq found (codes "!") then Some (codes "not(..)")
-    else if pointwise nat_eq found (codes "'") then Some (codes "\"")
-    else None
+sign_hint = meant_by (
+    (codes "&" ∷ codes "&&" ∷ [], codes "all(.., ..)")
+    ∷ (codes "|" ∷ codes "||" ∷ [], codes "any(.., ..)")
+    ∷ (codes "!" ∷ [], codes "not(..)")
+    ∷ (codes "'" ∷ [], codes "\"")
+    ∷ [])
 
 -- `cfg` in any letters, and behind spaces a parenthesis
 abbrev pub is_like_cfg : List ℕ → Bool

@@ -1,9 +1,11 @@
 -- The keys of `cfg(..)`, and the words that stand in place of it.
-use Rattle.std.specs.Prelude.{ℕ, ◌&&◌, ◌||◌, not, Bool, true, false, List, [], ◌∷◌, codes, nat_eq, Option, Some, None, if◌then◌else◌}
+use Rattle.std.specs.Prelude.{ℕ, ◌&&◌, ◌||◌, not, Bool, false, List, [], ◌∷◌, codes, nat_eq, Option, Some, None, is_some, if◌then◌else◌}
 use Rattle.std.specs.Char.{is_ascii_digit}
 use Rattle.std.specs.Cmp.Lexicographic.{pointwise}
+use Rattle.std.specs.List.{list_all, list_any}
 use Rattle.nextest_config_filters.specs.Front.{behind}
-use Rattle.nextest_config_filters.specs.Platform.Near.{is_near_one_of}
+use Rattle.nextest_config_filters.specs.Platform.Near.{is_within_two}
+use Rattle.nextest_config_filters.specs.Text.{is_one_of}
 use Rattle.nextest_config_filters.specs.declared.platform.flaw.PlatformFlaw.{PlatformFlaw}
 use Rattle.nextest_config_filters.specs.declared.platform.flaw.PlatformFlaw.TheVariants as flaws
 
@@ -48,24 +50,13 @@ systems =
 abbrev pub groups : List (List ℕ)
 groups = codes "all" ∷ codes "any" ∷ codes "not" ∷ []
 
--- the text is one of these words
-abbrev pub is_one_of : List ℕ → List (List ℕ) → Bool
-is_one_of cs [] = false
-is_one_of cs (word ∷ words) = pointwise nat_eq cs word || is_one_of cs words
-
 -- ---- what is wrong with a key
 
--- no key is called so, but one that differs in two characters at most
-abbrev pub is_misspelt : List ℕ → Bool
-is_misspelt key = not (is_one_of key target_keys) && is_near_one_of key target_keys
-
--- by what stands behind `target_` in it
-abbrev pub is_unknown_by : Option (List ℕ) → List ℕ → Bool
-is_unknown_by None key = false
-is_unknown_by (Some rest) key = is_misspelt key
-
+-- no key is called so, but one of a target that two edits at most lead to
 abbrev pub is_unknown : List ℕ → Bool
-is_unknown key = is_unknown_by (behind (codes "target_") key) key
+is_unknown key =
+    is_some (behind (codes "target_") key)
+    && (not (is_one_of key target_keys) && list_any (is_within_two key) target_keys)
 
 abbrev pub unknown_flaw : List ℕ → Option PlatformFlaw
 unknown_flaw key = if is_unknown key then Some flaws.UnknownKey else None
@@ -73,14 +64,10 @@ unknown_flaw key = if is_unknown key then Some flaws.UnknownKey else None
 abbrev pub needs_value : List ℕ → Bool
 needs_value key = is_one_of key target_keys || is_one_of key other_keys
 
-abbrev pub are_digits : List ℕ → Bool
-are_digits [] = true
-are_digits (c ∷ cs) = is_ascii_digit c && are_digits cs
-
 -- ASCII digits, and at least one
 abbrev pub is_number : List ℕ → Bool
 is_number [] = false
-is_number (c ∷ cs) = are_digits (c ∷ cs)
+is_number (c ∷ cs) = list_all is_ascii_digit (c ∷ cs)
 
 -- the width of pointers is no number
 abbrev pub is_wrong_width : List ℕ → List ℕ → Bool

@@ -1,5 +1,5 @@
 -- Texts that few edits of a character lead from one to another.
-use Rattle.std.specs.Prelude.{ℕ, ◌==◌, ◌||◌, Bool, false, List, [], ◌∷◌, nat_eq, if◌then◌else◌}
+use Rattle.std.specs.Prelude.{ℕ, ◌==◌, ◌||◌, Bool, List, [], ◌∷◌, nat_eq, if◌then◌else◌}
 use Rattle.std.specs.Cmp.Lexicographic.{pointwise}
 use Rattle.nextest_config_filters.specs.Front.{without_first}
 
@@ -9,7 +9,7 @@ behind_same [] ds = ([], ds)
 behind_same (c ∷ cs) [] = (c ∷ cs, [])
 behind_same (c ∷ cs) (d ∷ ds) = if c == d then behind_same cs ds else (c ∷ cs, d ∷ ds)
 
--- one edit more than this leads from one to the other: it leaves out the first character of the one,
+-- one edit more than this leads from one to the other: it leaves out the first character of one,
 -- or puts in that of the other, or replaces it
 abbrev pub by_one : (List ℕ → List ℕ → Bool) → List ℕ × List ℕ → Bool
 by_one nearer rests =
@@ -24,8 +24,3 @@ is_within_one cs ds = by_one (pointwise nat_eq) (behind_same cs ds)
 -- at most two
 abbrev pub is_within_two : List ℕ → List ℕ → Bool
 is_within_two cs ds = by_one is_within_one (behind_same cs ds)
-
--- one of these words is at most two edits away
-abbrev pub is_near_one_of : List ℕ → List (List ℕ) → Bool
-is_near_one_of cs [] = false
-is_near_one_of cs (word ∷ words) = is_within_two cs word || is_near_one_of cs words

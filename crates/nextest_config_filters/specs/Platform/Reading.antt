@@ -1,160 +1,76 @@
--- What is read of `cfg(..)` at a place, by what stands before it.
-use Rattle.std.specs.Prelude.{ℕ, ◌==◌, ◌&&◌, ◌||◌, Bool, true, false, List, [], ◌∷◌, codes, nat_eq, Option, Some, None, if◌then◌else◌}
-use Rattle.std.specs.Cmp.Lexicographic.{pointwise}
-use Rattle.std.specs.Str.{skip_leading_whitespace as behind_spaces}
-use Rattle.toml_spans.specs.Characters.{double_quote}
-use Rattle.nextest_config_filters.specs.Front.{begins, begins_key, behind_run, bytes_of, closing, comma, equals_sign, in_key, in_run, is_doubled, number_sign, opening, run, without_first}
-use Rattle.nextest_config_filters.specs.Platform.Key.{groups, is_one_of, key_flaw}
-use Rattle.nextest_config_filters.specs.Platform.Told.{closes, ends, member, opens, Reading, separates, tells, told_bytes, told_to, unjudged}
-use Rattle.nextest_config_filters.specs.declared.front.Run.TheVariants as runs
+-- What may be read at a place of a platform: how it goes on, or what is reported.
+use Rattle.std.specs.Prelude.{ℕ, List, [], chars}
+use Rattle.nextest_config_filters.specs.Front.{before, bytes_of, without_first}
 use Rattle.nextest_config_filters.specs.declared.platform.flaw.PlatformFlaw.{PlatformFlaw}
 use Rattle.nextest_config_filters.specs.declared.platform.flaw.PlatformFlaw.TheVariants as flaws
-use Rattle.nextest_config_filters.specs.declared.platform.told.After.{After}
-use Rattle.nextest_config_filters.specs.declared.platform.told.After.TheVariants as after
-use Rattle.nextest_config_filters.specs.declared.platform.told.Level.{Level}
+use Rattle.nextest_config_filters.specs.declared.platform.reading.FaultAt.{FaultAt as OwnFaultAt}
+use Rattle.nextest_config_filters.specs.declared.platform.reading.Level.{Level}
+use Rattle.nextest_config_filters.specs.declared.platform.reading.Reading.{Reading as OwnReading}
+use Rattle.nextest_config_filters.specs.declared.platform.reading.Reading.TheVariants as readings
 
--- ---- what may stand behind what
+-- a fault before its hint: how many bytes are left where it begins and behind it, what is wrong,
+-- and what is found
+pub record FaultAt : Type 0 where
+  pub from : ℕ
+  pub behind : ℕ
+  pub flaw : PlatformFlaw
+  pub found : List ℕ
 
-abbrev pub takes_member : After → Bool
-takes_member after.Member = false
-takes_member before = true
+-- how a reading ends: a comma or a member stands before the rest, a group opens before it, a
+-- parenthesis closes at its front, the last one stands before it, it isn't judged from here, or
+-- a fault is reported
+pub data Reading : Type 0 where
+  separates : (rest : List ℕ) → Reading
+  member : (rest : List ℕ) → Reading
+  opens : (level : Level) (rest : List ℕ) → Reading
+  closes : (rest : List ℕ) → Reading
+  ends : (rest : List ℕ) → Reading
+  unjudged : Reading
+  reports : (reported : FaultAt) → Reading
 
-abbrev pub takes_comma : After → Bool
-takes_comma after.Comma = true
-takes_comma after.Member = true
-takes_comma before = false
+-- ---- of the code's own, without where it lies in memory
 
-abbrev pub takes_closing : After → Bool
-takes_closing after.Nothing = false
-takes_closing before = true
-
-abbrev pub takes_end : After → Bool
-takes_end after.Opening = false
-takes_end before = true
-
--- ---- what may not
-
--- nothing is left
-abbrev pub is_nothing : List ℕ → Bool
-is_nothing [] = true
-is_nothing (c ∷ cs) = false
-
--- the end: the last parenthesis, behind which nothing but spaces stands
-abbrev pub is_end : ℕ → List ℕ → Bool
-is_end c cs = c == closing && is_nothing (behind_spaces cs)
-
--- `r#` (114 is `r`)
-abbrev pub is_raw : ℕ → List ℕ → Bool
-is_raw c cs = c == 114 && begins number_sign cs
-
--- what comes behind the value that a quote before these characters begins
-abbrev pub behind_value : List ℕ → Option (List ℕ)
-behind_value cs =
-    if is_nothing (behind_run (in_run runs.Value) cs) then None
-    else Some (without_first (behind_run (in_run runs.Value) cs))
-
--- a value that isn't expected, or isn't closed
-abbrev pub unexpected_value : Option (List ℕ) → List ℕ → Reading
-unexpected_value None cs = tells (told_to cs (without_first cs) flaws.ValueNotClosed)
-unexpected_value (Some rest) cs = tells (told_to cs rest flaws.Unexpected)
-
--- what comes behind a key, `&&`, `||` or another character
-abbrev pub behind_token : ℕ → List ℕ → List ℕ
-behind_token c cs =
-    if begins_key c then behind_run in_key cs
-    else if is_doubled c cs then without_first cs
-    else cs
-
--- something else is expected than what stands here
-abbrev pub unexpected : List ℕ → Reading
-unexpected [] = tells (told_bytes 0 0 flaws.Unexpected)
-unexpected (c ∷ cs) =
-    if is_raw c cs then unjudged
-    else if c == double_quote then unexpected_value (behind_value cs) (c ∷ cs)
-    else if is_end c cs
-    then tells (told_bytes (bytes_of (c ∷ cs)) (bytes_of (c ∷ cs)) flaws.Unexpected)
-    else tells (told_to (c ∷ cs) (behind_token c cs) flaws.Unexpected)
-
--- ---- keys
-
--- a key is read once a comma, a parenthesis that closes or the end follows
-abbrev pub is_follower : List ℕ → Bool
-is_follower [] = true
-is_follower (c ∷ cs) = c == comma || c == closing
-
--- the key at the front of a text, whose value is read up to this rest
-abbrev pub read_judged : Option PlatformFlaw → List ℕ → List ℕ → Reading
-read_judged None cs rest = member rest
-read_judged (Some flaw) cs rest = tells (told_to cs (behind_run in_key cs) flaw)
-
-abbrev pub read_follower : List ℕ → Option (List ℕ) → List ℕ → Reading
-read_follower cs value rest =
-    if is_follower rest then read_judged (key_flaw (run in_key cs) value) cs rest
-    else unexpected rest
-
--- the value behind a quote, for the key at the front of a text
-abbrev pub read_quoted : List ℕ → Option (List ℕ) → List ℕ → Reading
-read_quoted cs None rest = unexpected (double_quote ∷ rest)
-read_quoted cs (Some behind) rest =
-    read_follower cs (Some (run (in_run runs.Value) rest)) (behind_spaces behind)
-
--- what stands behind `=`, without spaces
-abbrev pub read_value : List ℕ → List ℕ → Reading
-read_value cs [] = unexpected []
-read_value cs (c ∷ rest) =
-    if c == double_quote then read_quoted cs (behind_value rest) rest
-    else unexpected (c ∷ rest)
-
--- what stands behind the key at the front of a text, without spaces
-abbrev pub read_key : List ℕ → List ℕ → Reading
-read_key cs [] = read_follower cs None []
-read_key cs (c ∷ rest) =
-    if c == equals_sign then read_value cs (behind_spaces rest)
-    else read_follower cs None (c ∷ rest)
-
--- ---- groups
-
--- the level of a group at the front of a text, by what stands from its parenthesis on
-abbrev pub level_at : List ℕ → List ℕ → Level
-level_at cs parenthesis = record {
-  is_not = pointwise nat_eq (run in_key cs) (codes "not");
-  from = bytes_of cs;
-  opening = bytes_of parenthesis;
-  opened = bytes_of (without_first parenthesis);
-  members = 0;
+abbrev pub fault_view : OwnFaultAt → FaultAt
+fault_view reported = record {
+  from = reported.from;
+  behind = reported.behind;
+  flaw = reported.flaw;
+  found = chars reported.found.now;
 }
 
--- what stands behind the name of a group at the front of a text, without spaces
-abbrev pub read_group : List ℕ → List ℕ → Reading
-read_group cs [] = unexpected []
-read_group cs (c ∷ opened) =
-    if c == opening then opens (level_at cs (c ∷ opened)) opened else unexpected (c ∷ opened)
+abbrev pub reading_of : OwnReading → Reading
+reading_of (readings.Separates rest) = separates (chars rest.now)
+reading_of (readings.Member rest) = member (chars rest.now)
+reading_of (readings.Opens level rest) = opens level (chars rest.now)
+reading_of (readings.Closes rest) = closes (chars rest.now)
+reading_of (readings.Ends rest) = ends (chars rest.now)
+reading_of readings.Unjudged = unjudged
+reading_of (readings.Reports reported) = reports (fault_view reported)
 
--- ---- places
+-- ---- what is reported
 
--- a key or the name of a group at the front of a text
-abbrev pub read_word : List ℕ → Reading
-read_word cs =
-    if is_one_of (run in_key cs) groups then read_group cs (behind_spaces (behind_run in_key cs))
-    else read_key cs (behind_spaces (behind_run in_key cs))
+-- what stands at a place up to a rest of it
+abbrev pub fault_up_to : List ℕ → List ℕ → PlatformFlaw → FaultAt
+fault_up_to cs rest flaw = record {
+  from = bytes_of cs;
+  behind = bytes_of rest;
+  flaw = flaw;
+  found = before cs rest;
+}
 
--- a parenthesis that closes, before these characters
-abbrev pub read_closing : After → List ℕ → Reading
-read_closing before cs =
-    if is_end closing cs
-    then (if takes_end before then ends cs else unexpected (closing ∷ cs))
-    else (if takes_closing before then closes (closing ∷ cs) else unexpected (closing ∷ cs))
+-- so many bytes, of which nothing is found
+abbrev pub fault_between : ℕ → ℕ → PlatformFlaw → FaultAt
+fault_between from behind flaw =
+    record { from = from; behind = behind; flaw = flaw; found = [] }
 
--- what stands behind this, without spaces
-abbrev pub read : After → List ℕ → Reading
-read before [] = unexpected []
-read before (c ∷ cs) =
-    if is_raw c cs then unjudged
-    else if begins_key c && takes_member before then read_word (c ∷ cs)
-    else if c == comma && takes_comma before then separates cs
-    else if c == closing then read_closing before cs
-    else unexpected (c ∷ cs)
+-- the parenthesis of a level isn't closed
+abbrev pub not_closed : Level → FaultAt
+not_closed level = fault_between level.opening level.opened flaws.NotClosed
 
--- what is read at a place, behind this
-unfoldable pub reading_at : After → List ℕ → Reading
-reading_at before cs = read before (behind_spaces cs)
+-- nothing is open that the parenthesis at the front of these characters closes
+abbrev pub not_open : List ℕ → FaultAt
+not_open cs = fault_up_to cs (without_first cs) flaws.NotOpen
+
+-- something is wrong with all that a level has, up to this rest
+abbrev pub fault_of_level : Level → List ℕ → PlatformFlaw → FaultAt
+fault_of_level level rest flaw = fault_between level.from (bytes_of rest) flaw

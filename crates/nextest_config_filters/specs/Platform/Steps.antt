@@ -1,10 +1,10 @@
 -- The walk through `cfg(..)`, as the code has it.
 use Rattle.std.specs.Prelude.{◌≡◌, ℕ, ◌<◌, List, [], ◌∷◌, ◌++◌, chars, length, Option, Some, None}
-use Rattle.nextest_config_filters.specs.Platform.Told.{Reading, told_view}
+use Rattle.nextest_config_filters.specs.Platform.Reading.{fault_view, Reading}
 use Rattle.nextest_config_filters.specs.Platform.Walk.{next_of, not_judged, Outcome, outcome_of, passes, State, wrong}
 use Rattle.nextest_config_filters.specs.declared.platform.outcome.Outcome.{Outcome as OwnOutcome}
 use Rattle.nextest_config_filters.specs.declared.platform.outcome.Outcome.TheVariants as outcomes
-use Rattle.nextest_config_filters.specs.declared.platform.told.Level.{Level}
+use Rattle.nextest_config_filters.specs.declared.platform.reading.Level.{Level}
 use Rattle.nextest_config_filters.specs.declared.platform.walk.State.{State as OwnState}
 use Rattle.nextest_config_filters.specs.declared.platform.walk.Step.{Step}
 use Rattle.nextest_config_filters.specs.declared.platform.walk.Step.TheVariants as steps
@@ -13,7 +13,7 @@ use Rattle.nextest_config_filters.specs.declared.platform.walk.Step.TheVariants 
 abbrev pub outcome_view : OwnOutcome → Outcome
 outcome_view outcomes.Passes = passes
 outcome_view outcomes.Unjudged = not_judged
-outcome_view (outcomes.Wrong told) = wrong (told_view told)
+outcome_view (outcomes.Wrong reported) = wrong (fault_view reported)
 
 -- levels, of which the innermost is the last
 abbrev pub outermost_first : List Level → List Level

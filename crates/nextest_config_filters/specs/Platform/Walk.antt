@@ -1,12 +1,13 @@
 -- The walk through `cfg(..)`.
-use Rattle.std.specs.Prelude.{◌≡◌, ℕ, ◌+◌, ◌==◌, ◌&&◌, nat_lt, not, Bool, false, List, [], ◌∷◌, Option, Some, None, if◌then◌else◌}
+use Rattle.std.specs.Prelude.{ℕ, ◌+◌, ◌==◌, ◌&&◌, nat_lt, not, Bool, false, List, [], ◌∷◌, Option, Some, None, if◌then◌else◌}
 use Rattle.nextest_config_filters.specs.Front.{bytes_of, opening, without_first}
-use Rattle.nextest_config_filters.specs.Platform.Reading.{reading_at}
-use Rattle.nextest_config_filters.specs.Platform.Told.{closes, ends, member, not_closed, not_open, opens, Reading, separates, tells, Told, told_level, unjudged}
+use Rattle.nextest_config_filters.specs.Platform.Member.{reading_at}
+use Rattle.nextest_config_filters.specs.Platform.Reading.{closes, ends, fault_of_level, FaultAt, member, not_closed, not_open, opens, Reading, reports, separates, unjudged}
+use Rattle.nextest_config_filters.specs.Steps.{IsWalked}
 use Rattle.nextest_config_filters.specs.declared.platform.flaw.PlatformFlaw.TheVariants as flaws
-use Rattle.nextest_config_filters.specs.declared.platform.told.After.{After}
-use Rattle.nextest_config_filters.specs.declared.platform.told.After.TheVariants as after
-use Rattle.nextest_config_filters.specs.declared.platform.told.Level.{Level}
+use Rattle.nextest_config_filters.specs.declared.platform.reading.After.{After}
+use Rattle.nextest_config_filters.specs.declared.platform.reading.After.TheVariants as after
+use Rattle.nextest_config_filters.specs.declared.platform.reading.Level.{Level}
 
 -- where the reading is: what stands before it, the group that it is in, those around that, the
 -- innermost first, of which the last is `cfg(..)` itself, and what stands behind all that is read
@@ -73,25 +74,25 @@ next_of (opens inner rest) level outer =
 next_of (closes cs) level outer = next_closed level outer (without_first cs)
 next_of reading level outer = None
 
--- how a reading may end: the text passes, isn't judged, or this is told
+-- how a reading may end: the text passes, isn't judged, or this is reported
 pub data Outcome : Type 0 where
   passes : Outcome
   not_judged : Outcome
-  wrong : (told : Told) → Outcome
+  wrong : (reported : FaultAt) → Outcome
 
 -- what is found at a parenthesis that closes
 abbrev pub outcome_closed : Level → List Level → List ℕ → Outcome
 outcome_closed level [] cs = wrong (not_open cs)
 outcome_closed level (around ∷ outer) cs =
     if is_miscounted level
-    then wrong (told_level level (without_first cs) (flaws.NotMembers level.members))
+    then wrong (fault_of_level level (without_first cs) (flaws.NotMembers level.members))
     else passes
 
 -- what is found at the end
 abbrev pub outcome_whole : After → Level → List ℕ → Outcome
-outcome_whole after.Nothing level rest = wrong (told_level level rest flaws.NoMember)
+outcome_whole after.Nothing level rest = wrong (fault_of_level level rest flaws.NoMember)
 outcome_whole before level rest =
-    if nat_lt 1 level.members then wrong (told_level level rest flaws.ManyMembers) else passes
+    if nat_lt 1 level.members then wrong (fault_of_level level rest flaws.ManyMembers) else passes
 
 abbrev pub outcome_end : After → Level → List Level → List ℕ → Outcome
 outcome_end before level [] rest = outcome_whole before level rest
@@ -101,7 +102,7 @@ outcome_end before level (around ∷ outer) rest = wrong (not_closed level)
 abbrev pub outcome_of : Reading → After → Level → List Level → Outcome
 outcome_of (closes cs) before level outer = outcome_closed level outer cs
 outcome_of (ends rest) before level outer = outcome_end before level outer rest
-outcome_of (tells told) before level outer = wrong told
+outcome_of (reports reported) before level outer = wrong reported
 outcome_of unjudged before level outer = not_judged
 outcome_of reading before level outer = passes
 
@@ -112,14 +113,6 @@ abbrev pub outcome_at : State → Outcome
 outcome_at state =
     outcome_of (reading_at state.before state.rest) state.before state.level state.outer
 
--- steps lead from a state to a state
-pub data Leads : State → State → Type 0 where
-  stays : (state : State) → Leads state state
-  steps : (from over to : State) → next from ≡ Some over → Leads over to → Leads from to
-
--- in a state that this one leads to, and from which no step leads, this is found
-pub record IsWalked (from : State) (outcome : Outcome) : Type 0 where
-  pub state : State
-  pub leads : Leads from state
-  pub over : next state ≡ None
-  pub finds : outcome_at state ≡ outcome
+-- where no step leads on from this state, this is found
+abbrev pub Finds : State → Outcome → Type 0
+Finds = IsWalked next outcome_at

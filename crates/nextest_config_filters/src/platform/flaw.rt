@@ -1,13 +1,13 @@
 //! What is wrong with a platform, and how it prints.
 
-ghost use Rattle.std.specs.Prelude.{◌≡◌, ◌++◌, decimal};
+ghost use Rattle.std.specs.Prelude.{◌≡◌, ◌++◌};
 ghost use Rattle.std.specs.Fmt.{WritesOnOk};
 ghost use Rattle.toml_spans.specs.QuotedText.{quoted_text};
 ghost use Rattle.nextest_config_filters.specs.Platform.Flaw.{code_of_platform, platform_text, unexpected_text};
 
 use crate::fault::TextFaultCode;
-use std::fmt;
-use toml_spans::{QuotedText, write_quoted};
+use std::fmt::{self, Formatter, Write};
+use toml_spans::QuotedText;
 
 /// What is wrong with a platform.
 #[derive(Clone, Copy, Debug, PartialEq, Eq)]
@@ -53,16 +53,21 @@ impl PlatformFlaw {
     }
 }
 
-pub(crate) fn write_platform_flaw<W: fmt::Write>(
-    f: &mut fmt::Formatter<W>,
+pub(crate) fn write_platform_flaw<W: Write>(
+    f: &mut Formatter<W>,
     flaw: PlatformFlaw,
     found: &str,
 ) -> fmt::Result
     ensures { WritesOnOk W.write_str_gives f.old result (platform_text flaw found.now) f.new }
 {
     match flaw {
-        PlatformFlaw::FamilyName => write_about(f, "no target is called ", found),
-        PlatformFlaw::SystemName => write_system(f, found),
+        PlatformFlaw::FamilyName => write!(f, "no target is called {}", QuotedText(found)),
+        PlatformFlaw::SystemName => write!(
+            f,
+            "no target is called {}, did you mean cfg(target_os = {})",
+            QuotedText(found),
+            QuotedText(found)
+        ),
         PlatformFlaw::NoName => f.write_str("expected \"cfg(..)\" or the name of a target"),
         PlatformFlaw::Unexpected => write_unexpected(f, found),
         PlatformFlaw::NotClosed => f.write_str("this \"(\" isn't closed"),
@@ -77,52 +82,26 @@ pub(crate) fn write_platform_flaw<W: fmt::Write>(
         PlatformFlaw::NoValue => {
             write_key(f, found, " needs a value, as in \"", " = \\\"..\\\"\"")
         }
-        PlatformFlaw::UnknownKey => write_about(f, "unknown key ", found),
+        PlatformFlaw::UnknownKey => write!(f, "unknown key {}", QuotedText(found)),
         PlatformFlaw::NoNumber => {
             write_key(f, found, " is a number, as in \"", " = \\\"64\\\"\"")
         }
     }
 }
 
-// These words, and what is found.
-fn write_about<W: fmt::Write>(f: &mut fmt::Formatter<W>, words: &str, found: &str) -> fmt::Result
-    ensures { WritesOnOk W.write_str_gives f.old result
-        (words.now ++ quoted_text found.now) f.new }
-{
-    f.write_str(words)?;
-    write_quoted(f, found)
-}
-
-fn write_system<W: fmt::Write>(f: &mut fmt::Formatter<W>, found: &str) -> fmt::Result
-    ensures { WritesOnOk W.write_str_gives f.old result
-        (platform_text PlatformFlaw.SystemName found.now) f.new }
-{
-    write!(
-        f,
-        "no target is called {}, did you mean cfg(target_os = {})",
-        QuotedText(found),
-        QuotedText(found)
-    )
-}
-
 // What is found and not expected, or that it is the end.
-fn write_unexpected<W: fmt::Write>(f: &mut fmt::Formatter<W>, found: &str) -> fmt::Result
+fn write_unexpected<W: Write>(f: &mut Formatter<W>, found: &str) -> fmt::Result
     ensures { WritesOnOk W.write_str_gives f.old result (unexpected_text found.now) f.new }
 {
     if found.is_empty() {
         f.write_str("unexpected end")
     } else {
-        write_about(f, "unexpected ", found)
+        write!(f, "unexpected {}", QuotedText(found))
     }
 }
 
 // The key, what is wrong with its value, and how it stands with one.
-fn write_key<W: fmt::Write>(
-    f: &mut fmt::Formatter<W>,
-    key: &str,
-    wrong: &str,
-    value: &str,
-) -> fmt::Result
+fn write_key<W: Write>(f: &mut Formatter<W>, key: &str, wrong: &str, value: &str) -> fmt::Result
     ensures { WritesOnOk W.write_str_gives f.old result
         (quoted_text key.now ++ (wrong.now ++ (key.now ++ value.now))) f.new }
 {

@@ -1,16 +1,16 @@
 //! What may be meant by what is found in a platform.
 
-ghost use Rattle.std.specs.Prelude.{◌≡◌, ◌++◌, IfOk, chars, option_map, string_bytes};
+ghost use Rattle.std.specs.Prelude.{◌≡◌, IfOk, chars, option_map, string_bytes};
 ghost use Rattle.std.specs.Bool.{MatchBool};
+ghost use Rattle.nextest_config_filters.specs.Platform.Hint.{in_cfg, is_like_cfg, IsHintFor, IsHintInCfg, IsPlatformHint, sign_hint};
 ghost use Rattle.nextest_config_filters.specs.Platform.Outcome.{IsOutcome};
 ghost use Rattle.nextest_config_filters.specs.Platform.Walk.{passes};
-ghost use Rattle.nextest_config_filters.specs.Platform.Hint.{in_cfg, is_like_cfg, IsHintFor, IsHintInCfg, IsPlatformHint, sign_hint};
 
 use super::flaw::PlatformFlaw;
 use super::key::target_keys;
 use super::outcome::{Outcome, judged};
 use crate::front::{Run, begins, behind_spaces, split_run};
-use crate::hint::owned;
+use crate::text::owned;
 use nextest_config_values::nearest_word::{is_same, nearest};
 use std::alloc::{AllocError, Global};
 

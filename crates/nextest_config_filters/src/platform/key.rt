@@ -1,8 +1,11 @@
 //! The keys of `cfg(..)`, and the words that stand in place of it.
 
 ghost use Rattle.std.specs.Prelude.{◌≡◌, None, Some, chars, map, option_map};
+ghost use Rattle.std.specs.Char.{is_ascii_digit};
+ghost use Rattle.std.specs.List.{list_all};
 ghost use Rattle.nextest_config_values.specs.Read.{words_of};
-ghost use Rattle.nextest_config_filters.specs.Platform.Key.{are_digits, families, groups, is_misspelt, is_number, is_one_of, is_unknown, is_wrong_width, key_flaw, needs_value, other_keys, systems, target_keys, unknown_flaw};
+ghost use Rattle.nextest_config_filters.specs.Platform.Key.{families, groups, is_number, is_unknown, is_wrong_width, key_flaw, needs_value, other_keys, systems, target_keys, unknown_flaw};
+ghost use Rattle.nextest_config_filters.specs.Text.{is_one_of};
 
 use super::flaw::PlatformFlaw;
 use super::near::is_near_one_of;
@@ -10,7 +13,7 @@ use crate::front::{behind, split_first};
 use crate::text::{is_one_of, is_same_text};
 
 /// The families of targets, keys that take no value.
-#[tactic(auto, using(crate::proofs::Platforms::Words::families_chars))]
+#[tactic(auto, using(crate::proofs::Characters::ascii_chars))]
 pub(crate) fn families() -> &'static [&'static str]
     ensures { map chars (words_of result.now) ≡ families }
 {
@@ -18,7 +21,7 @@ pub(crate) fn families() -> &'static [&'static str]
 }
 
 /// Operating systems that are taken for names of targets.
-#[tactic(auto, using(crate::proofs::Platforms::Words::systems_chars))]
+#[tactic(auto, using(crate::proofs::Characters::ascii_chars))]
 pub(crate) fn systems() -> &'static [&'static str]
     ensures { map chars (words_of result.now) ≡ systems }
 {
@@ -28,7 +31,7 @@ pub(crate) fn systems() -> &'static [&'static str]
 }
 
 /// The names of groups.
-#[tactic(auto, using(crate::proofs::Platforms::Words::groups_chars))]
+#[tactic(auto, using(crate::proofs::Characters::ascii_chars))]
 pub(crate) fn groups() -> &'static [&'static str]
     ensures { map chars (words_of result.now) ≡ groups }
 {
@@ -36,6 +39,7 @@ pub(crate) fn groups() -> &'static [&'static str]
 }
 
 /// The keys that are suggested, which need a value.
+#[tactic(auto, using(crate::proofs::Characters::ascii_chars))]
 pub(crate) fn target_keys() -> &'static [&'static str]
     ensures words { words_of result.now ≡ target_keys }
     ensures characters { map chars (words_of result.now) ≡ target_keys }
@@ -55,7 +59,7 @@ pub(crate) fn target_keys() -> &'static [&'static str]
 }
 
 // Other keys that need a value.
-#[tactic(auto, using(crate::proofs::Platforms::Words::other_keys_chars))]
+#[tactic(auto, using(crate::proofs::Characters::ascii_chars))]
 fn other_keys() -> &'static [&'static str]
     ensures { map chars (words_of result.now) ≡ other_keys }
 {
@@ -64,7 +68,8 @@ fn other_keys() -> &'static [&'static str]
 
 /// What is wrong with a key with this value, or with none.
 pub(crate) fn key_flaw(key: &str, value: Option<&str>) -> Option<PlatformFlaw>
-    ensures { result ≡ key_flaw (chars key.now) (option_map (λ value. chars value.now) value.entry) }
+    ensures { result
+        ≡ key_flaw (chars key.now) (option_map (λ value. chars value.now) value.entry) }
 {
     match value {
         Some(value) => value_flaw(key, value),
@@ -113,21 +118,14 @@ fn unknown_flaw(key: &str) -> Option<PlatformFlaw>
     }
 }
 
-// Whether no key is called so, but one that differs in two characters at most.
-#[tactic(auto, using(crate::proofs::Platforms::Words::target_chars))]
+// Whether no key is called so, but one of a target that two edits at most lead to.
+#[tactic(auto, using(crate::proofs::Characters::ascii_chars))]
 fn is_unknown(key: &str) -> bool
     ensures { result ≡ is_unknown (chars key.now) }
 {
-    match behind(key, "target_") {
-        Some(_) => is_misspelt(key),
-        None => false,
-    }
-}
-
-fn is_misspelt(key: &str) -> bool
-    ensures { result ≡ is_misspelt (chars key.now) }
-{
-    !is_one_of(key, target_keys()) && is_near_one_of(key, target_keys())
+    behind(key, "target_").is_some()
+        && !is_one_of(key, target_keys())
+        && is_near_one_of(key, target_keys())
 }
 
 fn needs_value(key: &str) -> bool
@@ -147,14 +145,7 @@ fn is_number(value: &str) -> bool
 }
 
 fn are_digits(value: &str) -> bool
-    ensures { result ≡ are_digits (chars value.now) }
+    ensures { result ≡ list_all is_ascii_digit (chars value.now) }
 {
-    let mut rest = value;
-    while let Some((c, following)) = split_first(rest) {
-        if !c.is_ascii_digit() {
-            return false;
-        }
-        rest = following;
-    }
-    true
+    value.chars().all(|c| c.is_ascii_digit())
 }

@@ -1,15 +1,16 @@
 //! Texts that few edits of a character lead from one to another.
 
 ghost use Rattle.std.specs.Prelude.{◌≡◌, chars, map};
+ghost use Rattle.std.specs.List.{list_any};
 ghost use Rattle.nextest_config_values.specs.Read.{words_of};
-ghost use Rattle.nextest_config_filters.specs.Platform.Near.{behind_same, is_near_one_of, is_within_one, is_within_two};
+ghost use Rattle.nextest_config_filters.specs.Platform.Near.{behind_same, is_within_one, is_within_two};
 
 use crate::front::{split_first, without_first};
 use crate::text::is_same_text;
 
 /// Whether one of these words is at most two edits away.
 pub(crate) fn is_near_one_of(text: &str, words: &[&str]) -> bool
-    ensures { result ≡ is_near_one_of (chars text.now) (map chars (words_of words.now)) }
+    ensures { result ≡ list_any (is_within_two (chars text.now)) (map chars (words_of words.now)) }
 {
     for &word in words {
         if is_within_two(text, word) {

@@ -1,15 +1,16 @@
 //! What is found in a text, from its first character that is no space on.
 
 ghost use Rattle.std.specs.Prelude.{◌≡◌, Some, chars, codes, false, IfOk, IsOk};
-ghost use Rattle.nextest_config_filters.specs.Platform.Outcome.{has_mark, in_no_name, is_closed, is_mark, IsCfgOutcome, IsOutcome, IsShallow, name_flaw, outside, StaysShallow};
+ghost use Rattle.std.specs.List.{list_any};
 ghost use Rattle.nextest_config_filters.specs.Front.{behind};
+ghost use Rattle.nextest_config_filters.specs.Platform.Outcome.{in_no_name, is_closed, is_mark, IsCfgOutcome, IsOutcome, IsShallow, name_flaw, outside, StaysShallow};
 ghost use Rattle.nextest_config_filters.specs.Platform.Steps.{outcome_view};
 ghost use Rattle.nextest_config_filters.specs.Platform.Walk.{start};
 ghost use Rattle.std.specs.Str.{drop_trailing_whitespace as without_spaces_behind};
 
 use super::flaw::PlatformFlaw;
 use super::key::{families, systems};
-use super::told::{Told, not_closed};
+use super::reading::{FaultAt, not_closed};
 use super::walk::{first_level, walk};
 use crate::front::{behind, split_first, split_front, without_spaces_behind};
 use crate::text::{is_one_of, size};
@@ -21,7 +22,7 @@ pub(crate) enum Outcome<'a> {
     Passes,
     /// It isn't judged from a place on.
     Unjudged,
-    Wrong(Told<'a>),
+    Wrong(FaultAt<'a>),
 }
 
 /// What is found in a text that begins with no space.
@@ -74,7 +75,7 @@ fn outside(text: &str) -> Outcome<'_>
     let name = without_spaces_behind(text);
     let (name, behind) = split_front(text, name);
     match name_flaw(name) {
-        Some(flaw) => Outcome::Wrong(Told {
+        Some(flaw) => Outcome::Wrong(FaultAt {
             from: size(text),
             behind: size(behind),
             flaw,
@@ -101,16 +102,9 @@ fn name_flaw(name: &str) -> Option<PlatformFlaw>
 
 // Whether a character stands there that stands in no name of a target.
 fn has_mark(name: &str) -> bool
-    ensures { result ≡ has_mark (chars name.now) }
+    ensures { result ≡ list_any in_no_name (chars name.now) }
 {
-    let mut rest = name;
-    while let Some((c, following)) = split_first(rest) {
-        if in_no_name(c) {
-            return true;
-        }
-        rest = following;
-    }
-    false
+    name.chars().any(|c| in_no_name(c))
 }
 
 // Whether the character stands in no name of a target.

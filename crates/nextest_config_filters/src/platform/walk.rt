@@ -1,18 +1,18 @@
 //! The walk through `cfg(..)`.
 
 ghost use Rattle.std.specs.Prelude.{◌≡◌, ◌+◌, ◌<◌, ◌≤◌, ◌^◌, List, Some, chars, codes, length, IfErr, IfOk, IsOk};
-ghost use Rattle.nextest_config_filters.specs.Platform.Outcome.{StaysShallow};
-ghost use Rattle.nextest_config_filters.specs.Platform.Reading.{reading_at};
-ghost use Rattle.nextest_config_filters.specs.Platform.Steps.{IsStep, IsStepBy, LeadsBeyond, outcome_view, outermost_first, Shows};
-ghost use Rattle.nextest_config_filters.specs.Platform.Told.{opens};
-ghost use Rattle.nextest_config_filters.specs.Platform.Walk.{first_level, is_miscounted, IsWalked, next_closed, next_of, outcome_closed, outcome_end, passes, start, State as StateOf, with_group, with_member};
 ghost use Rattle.nextest_config_filters.specs.Front.{behind, without_first};
-ghost use Rattle.nextest_config_filters.specs.declared.platform.told.Level.{Level as LevelOf};
+ghost use Rattle.nextest_config_filters.specs.Platform.Member.{reading_at};
+ghost use Rattle.nextest_config_filters.specs.Platform.Outcome.{StaysShallow};
+ghost use Rattle.nextest_config_filters.specs.Platform.Reading.{opens};
+ghost use Rattle.nextest_config_filters.specs.Platform.Steps.{IsStep, IsStepBy, LeadsBeyond, outcome_view, outermost_first, Shows};
+ghost use Rattle.nextest_config_filters.specs.Platform.Walk.{Finds, first_level, is_miscounted, next_closed, next_of, outcome_closed, outcome_end, passes, start, State as StateOf, with_member};
+ghost use Rattle.nextest_config_filters.specs.declared.platform.reading.Level.{Level as LevelOf};
 
 use super::flaw::PlatformFlaw;
+use super::member::reading_at;
 use super::outcome::Outcome;
-use super::reading::reading_at;
-use super::told::{After, Level, Reading, not_closed, not_open, told_level};
+use super::reading::{After, Level, Reading, fault_of_level, not_closed, not_open};
 use crate::front::without_first;
 use crate::text::size;
 use smallvec::SmallVec;
@@ -41,7 +41,7 @@ pub(crate) fn walk<'a>(
 ) -> Result<Outcome<'a>, AllocError>
     requires { behind (codes "cfg(") (chars text.now) ≡ Some (chars opened.now) }
     ensures walked { IfOk result (λ outcome.
-        IsWalked (start (chars text.now) (chars opened.now)) (outcome_view outcome)) }
+        Finds (start (chars text.now) (chars opened.now)) (outcome_view outcome)) }
     ensures no_memory { StaysShallow (start (chars text.now) (chars opened.now)) → IsOk result }
 {
     let mut outer = SmallVec::new(alloc);
@@ -100,7 +100,7 @@ fn next_step<'a>(outer: &mut SmallVec<Level, 8>, state: State<'a>) -> Result<Ste
         Reading::Closes(text) => Ok(closed(outer, state.level, text)),
         Reading::Ends(rest) => Ok(Step::Over(ended(outer, state.after, state.level, rest))),
         Reading::Unjudged => Ok(Step::Over(Outcome::Unjudged)),
-        Reading::Tells(told) => Ok(Step::Over(Outcome::Wrong(told))),
+        Reading::Reports(fault) => Ok(Step::Over(Outcome::Wrong(fault))),
     }
 }
 
@@ -125,7 +125,8 @@ fn opened<'a>(
     requires { level.members + 1 < 2 ^ 64 }
     ensures step { IfOk result (λ step. (around : List LevelOf)
         → outer.old.items ≡ outermost_first around
-        → IsStep (next_of (opens inner (chars rest.now)) level around) passes outer.new.items step) }
+        → IsStep (next_of (opens inner (chars rest.now)) level around) passes
+        outer.new.items step) }
     ensures full { IfErr result (λ _. outer.old.capacity < length outer.old.items + 1) }
     ensures capacity { outer.old.capacity ≤ outer.new.capacity }
 {
@@ -152,7 +153,7 @@ fn closed<'a>(outer: &mut SmallVec<Level, 8>, level: Level, text: &'a str) -> St
     let rest = without_first(text);
     match outer.pop() {
         None => Step::Over(Outcome::Wrong(not_open(text))),
-        Some(_) if is_miscounted(level) => Step::Over(Outcome::Wrong(told_level(
+        Some(_) if is_miscounted(level) => Step::Over(Outcome::Wrong(fault_of_level(
             level,
             rest,
             PlatformFlaw::NotMembers(level.members),
@@ -181,9 +182,9 @@ fn ended<'a>(outer: &SmallVec<Level, 8>, after: After, level: Level, rest: &str)
         return Outcome::Wrong(not_closed(level));
     }
     match after {
-        After::Nothing => Outcome::Wrong(told_level(level, rest, PlatformFlaw::NoMember)),
+        After::Nothing => Outcome::Wrong(fault_of_level(level, rest, PlatformFlaw::NoMember)),
         _ if level.members > 1 => {
-            Outcome::Wrong(told_level(level, rest, PlatformFlaw::ManyMembers))
+            Outcome::Wrong(fault_of_level(level, rest, PlatformFlaw::ManyMembers))
         }
         _ => Outcome::Passes,
     }

@@ -37,5 +37,5 @@ pub record IsExpected (shape : Shape) (text : List ℕ) : Type 0 where
   pub text_judged : IsJudged shape (string []) of_text
   pub is_date : IsSome (as_datetime date)
   pub date_judged : IsJudged shape date of_date
-  pub told : text ≡ expected_text (option_and_then (λ fault. listed_words fault.cause) of_text)
+  pub listed : text ≡ expected_text (option_and_then (λ fault. listed_words fault.cause) of_text)
       (option_and_then (λ fault. expected_kind fault.cause) of_date)

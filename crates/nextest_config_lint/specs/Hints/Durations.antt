@@ -4,7 +4,7 @@ use Rattle.std.specs.Char.{is_ascii_digit}
 use Rattle.std.specs.List.{list_all}
 use Rattle.toml.specs.Data.{as_integer, as_str, Data}
 use Rattle.nextest_config_values.specs.Duration.{IsDuration}
-use Rattle.nextest_config_lint.specs.Found.{Meant, the_toml, the_word}
+use Rattle.nextest_config_lint.specs.Found.{Suggestion, the_toml, the_word}
 
 -- the digits of a whole number
 abbrev pub digits_of_number : ℤ → Option (List ℕ)
@@ -33,13 +33,13 @@ abbrev pub IsDurationText : List ℕ → Type 0
 IsDurationText text = (nanoseconds : ℕ) × IsDuration text nanoseconds
 
 -- so many seconds may be meant, if that is a duration
-abbrev pub IsSecondsHint : List ℕ → Option Meant → Type 0
+abbrev pub IsSecondsHint : List ℕ → Option Suggestion → Type 0
 IsSecondsHint digits hint =
     (IsDurationText (seconds_text digits) × (hint ≡ Some (the_word (seconds_text digits))))
     ⊎ ((IsDurationText (seconds_text digits) → ⊥) × (hint ≡ None))
 
 -- what may be meant in place of a duration: as many seconds as a value's digits say, if it has any
-abbrev pub IsDurationHint : Option (List ℕ) → Option Meant → Type 0
+abbrev pub IsDurationHint : Option (List ℕ) → Option Suggestion → Type 0
 IsDurationHint None hint = hint ≡ None
 IsDurationHint (Some digits) hint = IsSecondsHint digits hint
 
@@ -54,13 +54,13 @@ either_unit digits =
     codes "\"" ++ (digits ++ (codes "ms\" or \"" ++ (digits ++ codes "s\"")))
 
 -- so many seconds may be meant, and where that would be long, as many milliseconds or seconds
-abbrev pub IsEitherHint : List ℕ → Option Meant → Type 0
+abbrev pub IsEitherHint : List ℕ → Option Suggestion → Type 0
 IsEitherHint digits hint =
     (IsLongText (seconds_text digits) × (hint ≡ Some (the_toml (either_unit digits))))
     ⊎ ((IsLongText (seconds_text digits) → ⊥) × IsSecondsHint digits hint)
 
 -- what may be meant in place of a duration that is short as a rule, by a value's digits, if it has
 -- any
-abbrev pub IsShortHint : Option (List ℕ) → Option Meant → Type 0
+abbrev pub IsShortHint : Option (List ℕ) → Option Suggestion → Type 0
 IsShortHint None hint = hint ≡ None
 IsShortHint (Some digits) hint = IsEitherHint digits hint

@@ -44,7 +44,8 @@ impl KnownKey {
 
     /// The steps to the key, and into an element of its value, which counts as the key.
     pub(crate) fn steps(&self, alloc: Global) -> Result<Vec<TableStep>, AllocError>
-        ensures { IfOk result (λ steps. map table_step steps.items ≡ steps_to (known_key self.now)) }
+        ensures { IfOk result (λ steps. map table_step steps.items
+            ≡ steps_to (known_key self.now)) }
     {
         let mut steps = self.path(alloc)?;
         push_index(&mut steps, &self.field.parts)?;

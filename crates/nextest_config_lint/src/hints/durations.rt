@@ -4,7 +4,7 @@ ghost use Rattle.std.specs.Prelude.{◌≡◌, ◌↔◌, IfOk, IsTrue, option_m
 ghost use Rattle.std.specs.Char.{is_ascii_digit};
 ghost use Rattle.std.specs.List.{list_all};
 ghost use Rattle.toml.specs.View.{view};
-ghost use Rattle.nextest_config_lint.specs.Found.{meant_of};
+ghost use Rattle.nextest_config_lint.specs.Found.{Suggests};
 ghost use Rattle.nextest_config_lint.specs.Hints.Durations.{digits_of, digits_of_number, digits_of_text, IsDurationHint, IsDurationText, IsEitherHint, IsLongText, IsSecondsHint, IsShortHint, seconds_text};
 
 use crate::finding::Hint;
@@ -17,8 +17,7 @@ const LONG: u128 = 100_000_000_000;
 
 /// The value with the unit of seconds, if that is a duration.
 pub(crate) fn duration_hint(alloc: Global, value: &Value) -> Result<Option<Hint>, AllocError>
-    ensures { IfOk result (λ hint.
-        IsDurationHint (digits_of (view value.now)) (option_map meant_of hint)) }
+    ensures { IfOk result (Suggests (IsDurationHint (digits_of (view value.now)))) }
 {
     match digits_of(alloc, value)? {
         Some(digits) => seconds_hint(alloc, digits.as_str()),
@@ -29,8 +28,7 @@ pub(crate) fn duration_hint(alloc: Global, value: &Value) -> Result<Option<Hint>
 /// Where durations are short as a rule: the value with the unit of seconds, and where that is long,
 /// with that of milliseconds or of seconds.
 pub(crate) fn short_duration_hint(alloc: Global, value: &Value) -> Result<Option<Hint>, AllocError>
-    ensures { IfOk result (λ hint.
-        IsShortHint (digits_of (view value.now)) (option_map meant_of hint)) }
+    ensures { IfOk result (Suggests (IsShortHint (digits_of (view value.now)))) }
 {
     match digits_of(alloc, value)? {
         Some(digits) => either_hint(alloc, digits.as_str()),
@@ -39,7 +37,7 @@ pub(crate) fn short_duration_hint(alloc: Global, value: &Value) -> Result<Option
 }
 
 fn either_hint(alloc: Global, digits: &str) -> Result<Option<Hint>, AllocError>
-    ensures { IfOk result (λ hint. IsEitherHint digits.now (option_map meant_of hint)) }
+    ensures { IfOk result (Suggests (IsEitherHint digits.now)) }
 {
     if are_long(alloc, digits)? {
         let text = format!(in alloc; "\"{digits}ms\" or \"{digits}s\"")?;
@@ -66,7 +64,7 @@ fn is_long(text: &str) -> bool
 }
 
 fn seconds_hint(alloc: Global, digits: &str) -> Result<Option<Hint>, AllocError>
-    ensures { IfOk result (λ hint. IsSecondsHint digits.now (option_map meant_of hint)) }
+    ensures { IfOk result (Suggests (IsSecondsHint digits.now)) }
 {
     let text = format!(in alloc; "{digits}s")?;
     if is_duration(text.as_str()) {

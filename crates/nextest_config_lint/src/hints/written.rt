@@ -1,10 +1,10 @@
 //! The boolean or the integer that is meant by a text.
 
-ghost use Rattle.std.specs.Prelude.{◌≡◌, ◌↔◌, ◌⊎◌, codes, IfOk, IsTrue, option_map};
+ghost use Rattle.std.specs.Prelude.{◌≡◌, ◌↔◌, ◌⊎◌, codes, IfOk, IsTrue};
 ghost use Rattle.toml.specs.Data.{as_str};
 ghost use Rattle.toml.specs.View.{view};
-ghost use Rattle.nextest_config_lint.specs.Found.{meant_of};
-ghost use Rattle.nextest_config_lint.specs.Hints.Written.{IsHintIfTaken, IsMeantByText, IsWrittenHint};
+ghost use Rattle.nextest_config_lint.specs.Found.{Suggests};
+ghost use Rattle.nextest_config_lint.specs.Hints.Written.{IsHintIfTaken, IsSuggestedByText, IsWrittenHint};
 
 use crate::finding::Hint;
 use crate::right::is_accepted;
@@ -21,8 +21,7 @@ pub(crate) fn written_hint(
     shape: Shape,
     value: &Value,
 ) -> Result<Option<Hint>, AllocError>
-    ensures { IfOk result (λ hint.
-        IsWrittenHint shape (as_str (view value.now)) (option_map meant_of hint)) }
+    ensures { IfOk result (Suggests (IsWrittenHint shape (as_str (view value.now)))) }
 {
     match value.as_str() {
         Some(text) => hint_by_text(alloc, shape, text),
@@ -31,7 +30,7 @@ pub(crate) fn written_hint(
 }
 
 fn hint_by_text(alloc: Global, shape: Shape, text: &str) -> Result<Option<Hint>, AllocError>
-    ensures { IfOk result (λ hint. IsMeantByText shape text.now (option_map meant_of hint)) }
+    ensures { IfOk result (Suggests (IsSuggestedByText shape text.now)) }
 {
     match text {
         "true" => return hint_if_taken(alloc, shape, &Value::Boolean(true)),
@@ -57,8 +56,7 @@ fn is_written(text: &str, printed: &str) -> bool
 
 // A value as TOML writes it, if the shape takes it.
 fn hint_if_taken(alloc: Global, shape: Shape, value: &Value) -> Result<Option<Hint>, AllocError>
-    ensures { IfOk result (λ hint.
-        IsHintIfTaken shape (view value.now) (option_map meant_of hint)) }
+    ensures { IfOk result (Suggests (IsHintIfTaken shape (view value.now))) }
 {
     if is_accepted(check_shape(alloc, Edition::ArrayAllowed, shape, value))? {
         let text = value_text(alloc, value)?;

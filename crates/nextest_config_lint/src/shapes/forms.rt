@@ -1,14 +1,14 @@
 //! Forms of values of which only the faults count: the checks of shapes without a reader.
 
-ghost use Rattle.std.specs.Prelude.{◌↔◌, IfErr, IsTrue, OnOk};
+ghost use Rattle.std.specs.Prelude.{IfErr, OnOk};
 ghost use Rattle.toml.specs.View.{view};
 ghost use Rattle.nextest_config_values.specs.Read.{Always, meaning, Refuses, text_reading};
-ghost use Rattle.nextest_config_values.specs.Helpers.Paths.{IsRelativePath};
 ghost use Rattle.nextest_config_values.specs.Helpers.PathsLaws.{relative_path_reading};
 ghost use Rattle.nextest_config_lint.specs.Shapes.Forms.{command_form, command_line_form, depth_form, line_form, one_word, platform_form, scalar_form, texts_form, threads_form, word_form};
 
 use crate::unknown::is_known;
 use nextest_config_elements::word_list::WordList;
+use nextest_config_values::helpers::is_relative_path;
 use nextest_config_values::read::ValueFault;
 use std::alloc::Global;
 use toml::Value;
@@ -171,17 +171,12 @@ fn check_line(alloc: Global, value: &Value, expected: &'static str) -> Result<()
 /// A path that doesn't begin with `/`, and of which no segment between slashes is `..`.
 pub(crate) fn check_relative_path(alloc: Global, value: &Value) -> Result<(), ValueFault>
     ensures meant { OnOk result ((meaning relative_path_reading).passes (view value.now)) }
-    ensures refused { IfErr result (Refuses (relative_path_reading.faults (view value.now)) Always) }
+    ensures refused { IfErr result (Refuses (relative_path_reading.faults (view value.now))
+        Always) }
 {
     match value.as_str() {
         Some(path) if is_relative_path(path) => Ok(()),
         Some(_) => Err(ValueFault::invalid_value(alloc, value, RELATIVE_PATH)),
         None => Err(ValueFault::invalid_type(alloc, value, TEXT)),
     }
-}
-
-fn is_relative_path(path: &str) -> bool
-    ensures { IsTrue result ↔ IsRelativePath path.now }
-{
-    !path.starts_with('/') && path.split('/').all(|piece| piece != "..")
 }

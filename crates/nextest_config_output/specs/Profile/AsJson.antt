@@ -16,7 +16,7 @@ use Rattle.nextest_config_profiles.specs.declared.report.parts.OverrideSetting.{
 use Rattle.nextest_config_profiles.specs.declared.report.parts.Row.{Row}
 use Rattle.nextest_config_output.specs.Profile.Chain.{name_of}
 use Rattle.nextest_config_output.specs.Profile.Object.{hidden_data, literal_data, other_data, row_data}
-use Rattle.nextest_config_output.specs.Profile.Location.{column_data, line_data, path_data, profile_data, location_if, location_of}
+use Rattle.nextest_config_output.specs.Profile.Location.{location_if, location_of, number_data, text_data}
 
 -- ---- the object of a profile
 
@@ -43,20 +43,20 @@ pairs_data settings =
 -- an override: `column`, `filter`, `line`, `path`, `platform`, `profile` and `settings`
 abbrev pub override_data : Override → Data
 override_data one = let location = location_of one.source in object
-    (member (codes "column") (column_data location)
+    (member (codes "column") (number_data location.column)
     (member (codes "filter") (literal_or_null one.filter)
-    (member (codes "line") (line_data location)
-    (member (codes "path") (path_data location)
+    (member (codes "line") (number_data location.line)
+    (member (codes "path") (text_data location.path)
     (member (codes "platform") (literal_or_null one.platform)
-    (member (codes "profile") (profile_data location)
+    (member (codes "profile") (text_data location.profile)
     (member (codes "settings") (object (pairs_data one.settings.items)) no_members)))))))
 
 -- a profile of the chain, and where it inherits: `column`, `line`, `path` and `profile`
 abbrev pub chain_data : ChainProfile → Data
 chain_data profile = let location = location_if profile.inherits in object
-    (member (codes "column") (column_data location)
-    (member (codes "line") (line_data location)
-    (member (codes "path") (path_data location)
+    (member (codes "column") (number_data location.column)
+    (member (codes "line") (number_data location.line)
+    (member (codes "path") (text_data location.path)
     (member (codes "profile") (string profile.name.now) no_members))))
 
 -- a profile: `chain`, `others`, `overrides`, `profile` and `settings`

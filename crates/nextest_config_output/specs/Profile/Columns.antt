@@ -3,7 +3,7 @@ use Rattle.std.specs.Prelude.{ℕ, ◌+◌, ◌-◌, max, nat_le, false, ◌&&�
 use Rattle.std.specs.List.{repeat}
 use Rattle.std.specs.Str.{chars}
 use Rattle.unicode_width.specs.Width.{str_width}
-use Rattle.nextest_config_output.specs.Profile.Line.{Line}
+use Rattle.nextest_config_output.specs.Profile.SourcedLine.{Line}
 
 -- the columns that a text takes, by the widths of `unicode_width`
 abbrev pub width : List ℕ → ℕ

@@ -4,8 +4,8 @@ use Rattle.toml_spans.specs.Step.{key_text}
 use Rattle.nextest_config_profiles.specs.declared.report.profile_report.ProfileReport.{ProfileReport}
 use Rattle.nextest_config_output.specs.Profile.Columns.{line_text, source_column}
 use Rattle.nextest_config_output.specs.Profile.Chain.{chain_text, name_of}
-use Rattle.nextest_config_output.specs.Profile.Line.{Line, other_line}
-use Rattle.nextest_config_output.specs.Profile.Lines.{setting_lines}
+use Rattle.nextest_config_output.specs.Profile.SourcedLine.{Line, other_line}
+use Rattle.nextest_config_output.specs.Profile.SettingLines.{setting_lines}
 use Rattle.nextest_config_output.specs.Profile.Overrides.{overrides_text}
 
 -- the lines of keys that no setting reads, below an empty one; nothing where there is none

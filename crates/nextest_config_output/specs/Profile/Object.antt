@@ -1,4 +1,4 @@
--- Objects of JSON (RFC 8259) of what is told of keys.
+-- Objects of JSON (RFC 8259) of what is reported of keys.
 use Rattle.std.specs.Prelude.{ℕ, List, [], ◌∷◌, codes, Option, Some, None, string_bytes}
 use Rattle.std.specs.Duration.{as_nanos}
 use Rattle.serde_json.specs.Data.{Data, member, no_members, null, object, string}
@@ -11,68 +11,42 @@ use Rattle.nextest_config_profiles.specs.declared.report.parts.FilePlace.{FilePl
 use Rattle.nextest_config_profiles.specs.declared.report.parts.Hidden.{Hidden}
 use Rattle.nextest_config_profiles.specs.declared.report.parts.Literal.{Literal}
 use Rattle.nextest_config_profiles.specs.declared.report.parts.OtherKey.{OtherKey}
+use Rattle.nextest_config_profiles.specs.declared.report.parts.Remark.{Remark}
 use Rattle.nextest_config_profiles.specs.declared.report.parts.Remark.TheVariants as remarks
 use Rattle.nextest_config_profiles.specs.declared.report.parts.Row.{Row}
 use Rattle.nextest_config_profiles.specs.declared.report.parts.Source.{Source}
 use Rattle.nextest_config_profiles.specs.declared.report.parts.KeyState.{KeyState}
 use Rattle.nextest_config_profiles.specs.declared.report.parts.KeyState.TheVariants as states
-use Rattle.nextest_config_output.specs.Profile.Keys.{key_path}
+use Rattle.nextest_config_output.specs.Profile.KeyPath.{key_path}
 use Rattle.nextest_config_output.specs.Profile.Time.{time_text}
-use Rattle.nextest_config_output.specs.Profile.Location.{column_data, line_data, path_data, profile_data, SeenLocation, location_of}
+use Rattle.nextest_config_output.specs.Profile.Location.{location_of, nowhere, number_data, SeenLocation, text_data}
+use Rattle.nextest_config_output.specs.Profile.ToJson.{with_member}
 
 -- a value, as JSON has it
 abbrev pub literal_data : Literal → Data
 literal_data literal = json_data (view literal.value)
 
 -- the object of a key: `column`, `key`, `line`, `message`, `path`, `profile`, `state` and `value`
-abbrev pub setting_data : List ℕ → Data → Option SeenLocation → List ℕ → Data → Data
-setting_data key value location state message = object
-    (member (codes "column") (column_data location)
+abbrev pub key_data : List ℕ → Data → SeenLocation → List ℕ → Data → Data
+key_data key value location state message = object
+    (member (codes "column") (number_data location.column)
     (member (codes "key") (string key)
-    (member (codes "line") (line_data location)
+    (member (codes "line") (number_data location.line)
     (member (codes "message") message
-    (member (codes "path") (path_data location)
-    (member (codes "profile") (profile_data location)
+    (member (codes "path") (text_data location.path)
+    (member (codes "profile") (text_data location.profile)
     (member (codes "state") (string state)
     (member (codes "value") value no_members))))))))
-
--- the object of a key with a number of periods, after which a slow test is terminated: with that
--- time at `terminated_after`
-abbrev pub terminating_data : List ℕ → Data → Option SeenLocation → List ℕ → Data → List ℕ → Data
-terminating_data key value location state message time = object
-    (member (codes "column") (column_data location)
-    (member (codes "key") (string key)
-    (member (codes "line") (line_data location)
-    (member (codes "message") message
-    (member (codes "path") (path_data location)
-    (member (codes "profile") (profile_data location)
-    (member (codes "state") (string state)
-    (member (codes "terminated_after") (string time)
-    (member (codes "value") value no_members)))))))))
 
 -- where a part of a value stands: `column`, `key`, `line` and `path`
 abbrev pub source_data : FaultSource → Data
 source_data part = let location = location_of part.source in object
-    (member (codes "column") (column_data location)
+    (member (codes "column") (number_data location.column)
     (member (codes "key") (string (key_path part.keys.items))
-    (member (codes "line") (line_data location)
-    (member (codes "path") (path_data location) no_members))))
+    (member (codes "line") (number_data location.line)
+    (member (codes "path") (text_data location.path) no_members))))
 
--- the object of a key whose value is refused: as of any key, with the places of the value's parts
--- at `sources`
-abbrev pub fault_data : List ℕ → Option SeenLocation → Data → List FaultSource → Data
-fault_data key location message sources = object
-    (member (codes "column") (column_data location)
-    (member (codes "key") (string key)
-    (member (codes "line") (line_data location)
-    (member (codes "message") message
-    (member (codes "path") (path_data location)
-    (member (codes "profile") (profile_data location)
-    (member (codes "sources") (array_of source_data sources)
-    (member (codes "state") (string (codes "fault"))
-    (member (codes "value") null no_members)))))))))
-
--- ---- what is told of a key of a setting
+-- ---- what is reported of a key of a setting
 
 -- the value that a key has, or null
 abbrev pub state_data : KeyState → Data
@@ -85,17 +59,17 @@ state_data (states.NoValue source) = null
 state_data (states.Fault message sources) = null
 
 -- where the first of the parts of a value stands
-abbrev pub first_location : List FaultSource → Option SeenLocation
-first_location [] = None
+abbrev pub first_location : List FaultSource → SeenLocation
+first_location [] = nowhere
 first_location (first ∷ rest) = location_of first.source
 
 -- where it stands what a key has; of a value that is refused, where the first of its parts stands
-abbrev pub state_location : KeyState → Option SeenLocation
+abbrev pub state_location : KeyState → SeenLocation
 state_location (states.Value literal source remark) = location_of source
 state_location (states.NotJudged literal source) = location_of source
-state_location (states.Default literal) = None
-state_location (states.Implied literal) = None
-state_location states.Unset = None
+state_location (states.Default literal) = nowhere
+state_location (states.Implied literal) = nowhere
+state_location states.Unset = nowhere
 state_location (states.NoValue source) = location_of source
 state_location (states.Fault message sources) = first_location sources.items
 
@@ -140,31 +114,40 @@ message_data (states.Fault message sources) = string (string_bytes message)
 
 -- ---- the objects
 
--- the object of a key of a setting, by what is told of it
-abbrev pub state_object : List ℕ → KeyState → Data
-state_object key (states.Fault message sources) =
-    fault_data key (first_location sources.items) (string (string_bytes message)) sources.items
-state_object key (states.Value literal source (remarks.TerminatedAfter time)) =
-    terminating_data key (literal_data literal) (location_of source) (value_state source)
-    (value_message source) (time_text (as_nanos time))
-state_object key so =
-    setting_data key (state_data so) (state_location so) (state_word so) (message_data so)
+-- the object of a key, with the time at `terminated_after` that is remarked of its value
+abbrev pub with_time : Remark → Data → Data
+with_time (remarks.TerminatedAfter time) so =
+    with_member (codes "terminated_after") (string (time_text (as_nanos time))) so
+with_time other so = so
 
--- the object of a row: of its key, by the path, and what is told of it
+-- the object of a key, with what is reported besides: of a value that is refused the places of its
+-- parts at `sources`, of one with a remark its time
+abbrev pub with_rest : KeyState → Data → Data
+with_rest (states.Fault message sources) so =
+    with_member (codes "sources") (array_of source_data sources.items) so
+with_rest (states.Value literal source remark) so = with_time remark so
+with_rest other so = so
+
+-- the object of a key of a setting, by what is reported of it
+abbrev pub state_object : List ℕ → KeyState → Data
+state_object key state = with_rest state
+    (key_data key (state_data state) (state_location state) (state_word state) (message_data state))
+
+-- the object of a row: of its key, by the path, and what is reported of it
 abbrev pub row_data : Row → Data
 row_data row = state_object (key_path row.keys.items) row.state
 
 -- the object of a value that doesn't count, whose state is `hidden`
 abbrev pub hidden_data : Hidden → Data
-hidden_data hidden = setting_data (key_path hidden.keys.items) (literal_data hidden.literal)
+hidden_data hidden = key_data (key_path hidden.keys.items) (literal_data hidden.literal)
     (location_of hidden.source) (codes "hidden") null
 
 -- the object of a key that no setting reads: `column`, `key`, `line`, `path`, `profile` and `value`
 abbrev pub other_data : OtherKey → Data
 other_data other = let location = location_of other.source in object
-    (member (codes "column") (column_data location)
+    (member (codes "column") (number_data location.column)
     (member (codes "key") (string (key_text other.key.now))
-    (member (codes "line") (line_data location)
-    (member (codes "path") (path_data location)
-    (member (codes "profile") (profile_data location)
+    (member (codes "line") (number_data location.line)
+    (member (codes "path") (text_data location.path)
+    (member (codes "profile") (text_data location.profile)
     (member (codes "value") (literal_data other.literal) no_members))))))

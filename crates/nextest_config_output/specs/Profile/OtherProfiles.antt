@@ -5,7 +5,7 @@ use Rattle.nextest_config_output.specs.declared.findings.escapes.Escapes.TheVari
 use Rattle.toml_spans.specs.Step.{key_text}
 use Rattle.nextest_config_profiles.specs.declared.report.profile_report.ProfileReport.{ProfileReport}
 use Rattle.nextest_config_profiles.specs.declared.report.parts.OtherProfileFault.{OtherProfileFault}
-use Rattle.nextest_config_output.specs.Profile.Keys.{key_path}
+use Rattle.nextest_config_output.specs.Profile.KeyPath.{key_path}
 use Rattle.nextest_config_output.specs.Profile.Source.{files_text}
 
 -- PATH:LINE, PATH:LINE: profile.Q.K: MESSAGE, escaped as in a line

@@ -7,7 +7,7 @@ use Rattle.nextest_config_profiles.specs.declared.report.parts.Literal.{Literal}
 use Rattle.nextest_config_profiles.specs.declared.report.parts.Override.{Override}
 use Rattle.nextest_config_profiles.specs.declared.report.parts.OverrideSetting.{OverrideSetting}
 use Rattle.nextest_config_profiles.specs.declared.report.parts.Source.{Source}
-use Rattle.nextest_config_output.specs.Profile.Line.{setting_text}
+use Rattle.nextest_config_output.specs.Profile.SourcedLine.{setting_text}
 use Rattle.nextest_config_output.specs.Profile.Source.{file_text, in_brackets}
 
 -- PATH:LINE: [profile.Q] and a blank; the profile is left out where it is the one of this name

@@ -41,7 +41,8 @@ pub fn push_finding(
     lines: &[&str],
 ) -> Result<(), AllocError>
     ensures { OnOk result (string_bytes text.new ≡ string_bytes text.old
-        ++ diagnostic_text format (diagnostic_view diagnostic.now) (map (λ line. line.now) lines.now)) }
+        ++ diagnostic_text format (diagnostic_view diagnostic.now)
+        (map (λ line. line.now) lines.now)) }
 {
     match format {
         Format::Human => push_human(text, diagnostic),
@@ -56,13 +57,13 @@ pub fn push_finding(
 
 /// What is found, after its key, as it prints with what is escaped.
 #[derive(Clone, Copy)]
-pub(crate) struct Found<'a, 'b>(pub Escapes, pub &'a Diagnostic<'b>);
+pub(crate) struct FoundText<'a, 'b>(pub Escapes, pub &'a Diagnostic<'b>);
 
-impl fmt::Display for Found<'_, '_> {
+impl fmt::Display for FoundText<'_, '_> {
     ghost output = { λ found. Some (found_text found.0 (diagnostic_view found.1.now)) };
 
     fn fmt<W: fmt::Write>(&self, f: &mut fmt::Formatter<W>) -> fmt::Result {
-        let Found(escapes, diagnostic) = *self;
+        let FoundText(escapes, diagnostic) = *self;
         write_key(f, escapes, diagnostic.key)?;
         write!(f, "{}", Escaped(escapes, diagnostic.message))
     }

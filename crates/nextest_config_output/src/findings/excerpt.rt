@@ -8,7 +8,7 @@ ghost use Rattle.nextest_config_output.specs.Findings.Excerpt.{begins_past_cut, 
 mod shown;
 
 use nextest_config_values::literal::is_printable;
-use shown::{Shown, columns};
+use shown::{ShownCharacters, columns};
 use std::alloc::{AllocError, Global};
 use std::fmt::Write;
 use toml_spans::Span;
@@ -71,7 +71,7 @@ fn first_characters(alloc: Global, line: &str) -> Result<Vec<char>, AllocError>
 fn shown_line(alloc: Global, characters: &[char]) -> Result<String, AllocError>
     ensures { IfOk result (λ shown. string_bytes shown ≡ shown_line characters.now) }
 {
-    let shown = Shown(front(characters, MOST_SHOWN));
+    let shown = ShownCharacters(front(characters, MOST_SHOWN));
     let cut = cut_text(characters);
     format!(in alloc; "{shown}{cut}")
 }

@@ -1,10 +1,10 @@
-//! The formats that findings are told in.
+//! The formats that findings are reported in.
 
 ghost use Rattle.nextest_config_output.specs.Findings.Format.{format_reads_back, format_word, formats};
 
 use nextest_config_values::read::Word;
 
-/// How a finding is told.
+/// How a finding is reported.
 #[derive(Clone, Copy, Debug, PartialEq, Eq)]
 pub enum Format {
     /// A line for people, and for tools that read `FILE:LINE:COLUMN:`.

@@ -4,7 +4,7 @@ ghost use Rattle.std.specs.Prelude.{◌≡◌, ◌++◌, OnOk, string_bytes};
 ghost use Rattle.nextest_config_output.specs.Findings.Github.{github_command, github_line, span_text};
 ghost use Rattle.nextest_config_output.specs.Findings.Diagnostic.{diagnostic_view};
 
-use crate::findings::diagnostic::{Diagnostic, Found};
+use crate::findings::diagnostic::{Diagnostic, FoundText};
 use crate::findings::escapes::{Escaped, Escapes};
 use nextest_config_lint::FindingSeverity;
 use std::alloc::AllocError;
@@ -14,8 +14,8 @@ use toml_spans::{Place, Span};
 // Pushes a finding as a command that shows it at its lines. Its text has the place, too, since the
 // log of a job shows nothing else.
 pub(crate) fn push_github(text: &mut String, diagnostic: &Diagnostic<'_>) -> Result<(), AllocError>
-    ensures { OnOk result
-        (string_bytes text.new ≡ string_bytes text.old ++ github_line (diagnostic_view diagnostic.now)) }
+    ensures { OnOk result (string_bytes text.new
+        ≡ string_bytes text.old ++ github_line (diagnostic_view diagnostic.now)) }
 {
     let command = github_command(diagnostic.severity);
     let file = Escaped(Escapes::Property, diagnostic.file);
@@ -23,7 +23,7 @@ pub(crate) fn push_github(text: &mut String, diagnostic: &Diagnostic<'_>) -> Res
     push_span(text, diagnostic.span)?;
     let path = Escaped(Escapes::Message, diagnostic.file);
     let Place { line, column } = diagnostic.span.begin;
-    let found = Found(Escapes::Message, diagnostic);
+    let found = FoundText(Escapes::Message, diagnostic);
     let code = diagnostic.code;
     writeln!(text, ",title={code}::{path}:{line}:{column}: {found}")
 }

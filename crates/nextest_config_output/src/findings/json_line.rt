@@ -16,8 +16,8 @@ pub(crate) fn push_json(
     text: &mut String,
     diagnostic: &Diagnostic<'_>,
 ) -> Result<(), AllocError>
-    ensures { OnOk result
-        (string_bytes text.new ≡ string_bytes text.old ++ json_line (diagnostic_view diagnostic.now)) }
+    ensures { OnOk result (string_bytes text.new
+        ≡ string_bytes text.old ++ json_line (diagnostic_view diagnostic.now)) }
 {
     let Span { begin, end } = diagnostic.span;
     let path = json_text(alloc, diagnostic.file)?;

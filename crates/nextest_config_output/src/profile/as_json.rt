@@ -2,18 +2,14 @@
 
 ghost use Rattle.std.specs.Prelude.{◌≡◌, ◌++◌, flat_map, IfOk, map, OnOk, string_bytes};
 ghost use Rattle.serde_json.specs.Data.{object};
-ghost use Rattle.serde_json.specs.View.{members_view, view};
-ghost use Rattle.nextest_config_report.specs.Show.{array_of};
+ghost use Rattle.serde_json.specs.View.{view};
 ghost use Rattle.nextest_config_output.specs.Profile.AsJson.{chain_data, IsJsonLine, literal_or_null, override_data, pairs_data, report_data, row_objects, settings_data};
-ghost use Rattle.nextest_config_output.specs.Profile.Object.{hidden_data, other_data};
 
 use crate::profile::chain::name_of;
-use crate::profile::location::{
-    column_value, line_value, location_if, location_of, path_value, profile_value,
-};
-use crate::profile::object::{hidden_value, other_value, row_value};
+use crate::profile::location::{location_if, location_of, number_value, text_value};
+use crate::profile::to_json::{ToJson, array_value, push_values, put};
 use nextest_config_profiles::report::{
-    ChainProfile, Hidden, Literal, OtherKey, Override, OverrideSetting, ProfileReport, Row,
+    ChainProfile, Literal, Override, OverrideSetting, ProfileReport, Row,
 };
 use nextest_config_values::literal::json_value;
 use serde_json::{Map, Value, json};
@@ -36,45 +32,36 @@ fn json_line(alloc: Global, value: &Value) -> Result<String, AllocError>
     Ok(text)
 }
 
-// What is told of a profile, as an object.
+// What is reported of a profile, as an object.
 fn report_value(alloc: Global, report: &ProfileReport<'_>) -> Result<Value, AllocError>
     ensures { IfOk result (λ value. view value ≡ report_data report.now) }
 {
     let chain = report.chain.as_slice();
     json!(in alloc; {
         "profile": Value::try_from_str(alloc, name_of(chain))?,
-        "chain": chain_value(alloc, chain)?,
+        "chain": array_value(alloc, chain)?,
         "settings": settings_value(alloc, report.settings.as_slice())?,
-        "others": others_value(alloc, report.others.as_slice())?,
-        "overrides": overrides_value(alloc, report.overrides.as_slice())?,
+        "others": array_value(alloc, report.others.as_slice())?,
+        "overrides": array_value(alloc, report.overrides.as_slice())?,
     })
-}
-
-// The profiles of a chain.
-fn chain_value(alloc: Global, chain: &[ChainProfile<'_>]) -> Result<Value, AllocError>
-    ensures { IfOk result (λ value. view value ≡ array_of chain_data chain.now) }
-{
-    let mut values = Vec::new(alloc);
-    for profile in chain {
-        values.push(chain_profile_value(alloc, profile)?)?;
-    }
-    Ok(Value::Array(values))
 }
 
 // A profile of a chain, and where it inherits.
-fn chain_profile_value(alloc: Global, profile: &ChainProfile<'_>) -> Result<Value, AllocError>
-    ensures { IfOk result (λ value. view value ≡ chain_data profile.now) }
-{
-    let location = location_if(profile.inherits);
-    json!(in alloc; {
-        "profile": Value::try_from_str(alloc, profile.name)?,
-        "path": path_value(alloc, &location)?,
-        "line": line_value(&location),
-        "column": column_value(&location),
-    })
+impl ToJson for ChainProfile<'_> {
+    ghost json = { chain_data };
+
+    fn to_json(&self, alloc: Global) -> Result<Value, AllocError> {
+        let location = location_if(self.inherits);
+        json!(in alloc; {
+            "profile": Value::try_from_str(alloc, self.name)?,
+            "path": text_value(alloc, location.path)?,
+            "line": number_value(location.line),
+            "column": number_value(location.column),
+        })
+    }
 }
 
-// What is told of settings.
+// What is reported of settings.
 fn settings_value(alloc: Global, settings: &[Vec<Row<'_>>]) -> Result<Value, AllocError>
     ensures { IfOk result (λ value. view value ≡ settings_data settings.now) }
 {
@@ -85,7 +72,7 @@ fn settings_value(alloc: Global, settings: &[Vec<Row<'_>>]) -> Result<Value, All
     Ok(Value::Array(values))
 }
 
-// Pushes what is told of the keys of a setting.
+// Pushes what is reported of the keys of a setting.
 fn push_rows(alloc: Global, values: &mut Vec<Value>, rows: &[Row<'_>]) -> Result<(), AllocError>
     ensures { OnOk result (map view values.new.items
         ≡ map view values.old.items ++ flat_map row_objects rows.now) }
@@ -96,66 +83,31 @@ fn push_rows(alloc: Global, values: &mut Vec<Value>, rows: &[Row<'_>]) -> Result
     Ok(())
 }
 
-// Pushes what is told of a key, and behind it what it hides.
+// Pushes what is reported of a key, and behind it what it hides.
 fn push_row(alloc: Global, values: &mut Vec<Value>, row: &Row<'_>) -> Result<(), AllocError>
     ensures { OnOk result
         (map view values.new.items ≡ map view values.old.items ++ row_objects row.now) }
 {
-    values.push(row_value(alloc, row)?)?;
-    push_hidden(alloc, values, row.hidden.as_slice())
+    values.push(row.to_json(alloc)?)?;
+    push_values(alloc, values, row.hidden.as_slice())
 }
 
-// Pushes what is hidden.
-fn push_hidden(
-    alloc: Global,
-    values: &mut Vec<Value>,
-    hidden: &[Hidden<'_>],
-) -> Result<(), AllocError>
-    ensures { OnOk result
-        (map view values.new.items ≡ map view values.old.items ++ map hidden_data hidden.now) }
-{
-    for one in hidden {
-        values.push(hidden_value(alloc, one)?)?;
+// What is reported of an override.
+impl ToJson for Override<'_> {
+    ghost json = { override_data };
+
+    fn to_json(&self, alloc: Global) -> Result<Value, AllocError> {
+        let location = location_of(self.source);
+        json!(in alloc; {
+            "profile": text_value(alloc, location.profile)?,
+            "path": text_value(alloc, location.path)?,
+            "line": number_value(location.line),
+            "column": number_value(location.column),
+            "filter": value_or_null(alloc, &self.filter)?,
+            "platform": value_or_null(alloc, &self.platform)?,
+            "settings": pairs_value(alloc, self.settings.as_slice())?,
+        })
     }
-    Ok(())
-}
-
-// What is told of other keys.
-fn others_value(alloc: Global, others: &[OtherKey<'_>]) -> Result<Value, AllocError>
-    ensures { IfOk result (λ value. view value ≡ array_of other_data others.now) }
-{
-    let mut values = Vec::new(alloc);
-    for other in others {
-        values.push(other_value(alloc, other)?)?;
-    }
-    Ok(Value::Array(values))
-}
-
-// What is told of overrides.
-fn overrides_value(alloc: Global, overrides: &[Override<'_>]) -> Result<Value, AllocError>
-    ensures { IfOk result (λ value. view value ≡ array_of override_data overrides.now) }
-{
-    let mut values = Vec::new(alloc);
-    for one in overrides {
-        values.push(override_value(alloc, one)?)?;
-    }
-    Ok(Value::Array(values))
-}
-
-// What is told of an override.
-fn override_value(alloc: Global, one: &Override<'_>) -> Result<Value, AllocError>
-    ensures { IfOk result (λ value. view value ≡ override_data one.now) }
-{
-    let location = location_of(one.source);
-    json!(in alloc; {
-        "profile": profile_value(alloc, &location)?,
-        "path": path_value(alloc, &location)?,
-        "line": line_value(&location),
-        "column": column_value(&location),
-        "filter": value_or_null(alloc, &one.filter)?,
-        "platform": value_or_null(alloc, &one.platform)?,
-        "settings": pairs_value(alloc, one.settings.as_slice())?,
-    })
 }
 
 // A value, or null.
@@ -174,8 +126,8 @@ fn pairs_value(alloc: Global, settings: &[OverrideSetting]) -> Result<Value, All
 {
     let mut pairs = Map::new(alloc);
     for setting in settings {
-        let key = String::from_str(alloc, setting.key)?;
-        drop(pairs.insert(key, json_value(alloc, &setting.literal.value)?)?);
+        let value = json_value(alloc, &setting.literal.value)?;
+        put(alloc, &mut pairs, setting.key, value)?;
     }
     Ok(Value::Object(pairs))
 }

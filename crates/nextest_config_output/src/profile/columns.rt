@@ -1,10 +1,10 @@
 //! Lines in two columns.
 
-ghost use Rattle.std.specs.Prelude.{◌≡◌, ◌++◌, ◌≤◌, flat_map, map, OnOk, string_bytes};
-ghost use Rattle.nextest_config_output.specs.Profile.Columns.{aligned_width, gap, line_text, source_column, sourced_text, widest};
-ghost use Rattle.nextest_config_output.specs.Profile.Line.{line_of};
+ghost use Rattle.std.specs.Prelude.{◌≡◌, ◌++◌, ◌≤◌, flat_map, map, OnOk, option_map, string_bytes};
+ghost use Rattle.nextest_config_output.specs.Profile.Columns.{aligned_width, gap, line_text, source_column, sourced_text, text_of, widest};
+ghost use Rattle.nextest_config_output.specs.Profile.SourcedLine.{line_of};
 
-use crate::profile::line::SourcedLine;
+use crate::profile::sourced_line::SourcedLine;
 use std::alloc::{AllocError, Global};
 use std::fmt::Write;
 use unicode_width::UnicodeWidthStr;
@@ -55,22 +55,23 @@ pub(crate) fn push_lines(
         ≡ string_bytes text.old ++ flat_map (line_text column) (map line_of lines.now)) }
 {
     for line in lines {
-        push_line(alloc, text, column, line)?;
+        push_line(alloc, text, column, line.first.as_str(), &line.source)?;
     }
     Ok(())
 }
 
+// Pushes a line with this first column, with its source if it has one.
 fn push_line(
     alloc: Global,
     text: &mut String,
     column: usize,
-    line: &SourcedLine,
+    first: &str,
+    source: &Option<String>,
 ) -> Result<(), AllocError>
-    ensures { OnOk result
-        (string_bytes text.new ≡ string_bytes text.old ++ line_text column (line_of line.now)) }
+    ensures { OnOk result (string_bytes text.new ≡ string_bytes text.old
+        ++ text_of column first.now (option_map string_bytes source.now)) }
 {
-    let first = line.first.as_str();
-    match &line.source {
+    match source {
         Some(source) => push_sourced(alloc, text, column, first, source.as_str()),
         None => writeln!(text, "{first}"),
     }

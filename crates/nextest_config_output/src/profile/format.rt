@@ -9,7 +9,7 @@ use nextest_config_profiles::report::ProfileReport;
 use nextest_config_report::show::ShowFormat;
 use std::alloc::{AllocError, Global};
 
-/// What is told of a profile, for people or for programs.
+/// What is reported of a profile, for people or for programs.
 pub fn profile_text(
     alloc: Global,
     format: ShowFormat,

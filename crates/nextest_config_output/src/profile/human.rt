@@ -2,13 +2,13 @@
 
 ghost use Rattle.std.specs.Prelude.{◌≡◌, ◌++◌, IfOk, map, OnOk, string_bytes};
 ghost use Rattle.nextest_config_output.specs.Profile.Human.{human_text, others_text};
-ghost use Rattle.nextest_config_output.specs.Profile.Line.{line_of};
+ghost use Rattle.nextest_config_output.specs.Profile.SourcedLine.{line_of};
 
 use crate::profile::chain::{ChainText, name_of};
 use crate::profile::columns::{push_lines, source_column};
-use crate::profile::line::SourcedLine;
-use crate::profile::lines::{other_lines, setting_lines};
 use crate::profile::overrides::push_overrides;
+use crate::profile::setting_lines::{lines_of, setting_lines};
+use crate::profile::sourced_line::SourcedLine;
 use nextest_config_profiles::report::ProfileReport;
 use std::alloc::{AllocError, Global};
 use std::fmt::Write;
@@ -21,7 +21,7 @@ pub(crate) fn human_text(alloc: Global, report: &ProfileReport<'_>) -> Result<St
     let chain = report.chain.as_slice();
     let name = name_of(chain);
     let settings = setting_lines(alloc, name, report.settings.as_slice())?;
-    let others = other_lines(alloc, name, report.others.as_slice())?;
+    let others = lines_of(alloc, name, report.others.as_slice())?;
     let column = source_column(settings.as_slice(), others.as_slice());
     let chain = ChainText(chain);
     let mut text = format!(in alloc; "profile {}: {chain}\n", NameText(name))?;

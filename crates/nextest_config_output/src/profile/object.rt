@@ -1,19 +1,17 @@
-//! Objects of JSON of what is told of keys.
+//! Objects of JSON of what is reported of keys.
 
-ghost use Rattle.std.specs.Prelude.{◌≡◌, IfOk, option_map, string_bytes};
+ghost use Rattle.std.specs.Prelude.{◌≡◌, IfOk};
 ghost use Rattle.serde_json.specs.View.{view};
-ghost use Rattle.nextest_config_output.specs.Profile.Keys.{key_path};
-ghost use Rattle.nextest_config_output.specs.Profile.Object.{first_location, hidden_data, message_data, other_data, row_data, setting_data, state_data, state_location, state_word, terminating_data, value_message, value_state};
+ghost use Rattle.nextest_config_output.specs.Profile.KeyPath.{key_path};
+ghost use Rattle.nextest_config_output.specs.Profile.Object.{first_location, hidden_data, key_data, message_data, other_data, row_data, source_data, state_data, state_location, state_word, value_message, value_state, with_rest, with_time};
 ghost use Rattle.nextest_config_output.specs.Profile.Location.{seen_location};
 
-use crate::profile::fault::fault_value;
-use crate::profile::keys::KeyPath;
-use crate::profile::line::{NO_VALUE, TABLE_DEFAULT};
-use crate::profile::location::{
-    Location, column_value, line_value, location_of, path_value, profile_value,
-};
+use crate::profile::key_path::KeyPath;
+use crate::profile::location::{Location, location_of, number_value, text_value};
 use crate::profile::source::OWN_DEFAULT;
+use crate::profile::sourced_line::{NO_VALUE, TABLE_DEFAULT};
 use crate::profile::time::TimeText;
+use crate::profile::to_json::{ToJson, array_value, with_member};
 use nextest_config_profiles::report::{
     FaultSource, Hidden, KeyState, OtherKey, Remark, Row, Source,
 };
@@ -21,109 +19,120 @@ use nextest_config_values::literal::{KeyText, json_value};
 use serde_json::{Value, json};
 use std::alloc::{AllocError, Global};
 
-/// The object of what is told of a key of a setting.
-pub(crate) fn row_value(alloc: Global, row: &Row<'_>) -> Result<Value, AllocError>
-    ensures { IfOk result (λ object. view object ≡ row_data row.now) }
+/// The object of what is reported of a key of a setting.
+impl ToJson for Row<'_> {
+    ghost json = { row_data };
+
+    fn to_json(&self, alloc: Global) -> Result<Value, AllocError> {
+        let value = state_value(alloc, &self.state)?;
+        let message = message_value(alloc, &self.state)?;
+        let location = state_location(&self.state);
+        let state = state_word(&self.state);
+        let object = key_value(
+            alloc,
+            self.keys.as_slice(),
+            value,
+            &location,
+            state,
+            message,
+        )?;
+        with_rest(alloc, object, &self.state)
+    }
+}
+
+// The object of a key, with what is reported besides of some.
+fn with_rest(alloc: Global, object: Value, state: &KeyState<'_>) -> Result<Value, AllocError>
+    ensures { IfOk result (λ all. view all ≡ with_rest state.now (view object)) }
 {
-    let value = state_value(alloc, &row.state)?;
-    let message = message_value(alloc, &row.state)?;
-    let location = state_location(&row.state);
-    let state = state_word(&row.state);
-    let keys = row.keys.as_slice();
-    match &row.state {
+    match state {
         KeyState::Fault { sources, .. } => {
-            fault_value(alloc, keys, &location, message, sources.as_slice())
+            let sources = array_value(alloc, sources.as_slice())?;
+            with_member(alloc, object, "sources", sources)
         }
-        KeyState::Value {
-            remark: Remark::TerminatedAfter(time),
-            ..
-        } => {
-            let time = TimeText(*time).to_string(alloc)?;
-            terminating_value(alloc, keys, value, &location, state, message, time)
+        KeyState::Value { remark, .. } => with_time(alloc, object, *remark),
+        _ => Ok(object),
+    }
+}
+
+// The object of a key, with the time that is remarked of its value.
+fn with_time(alloc: Global, object: Value, remark: Remark) -> Result<Value, AllocError>
+    ensures { IfOk result (λ all. view all ≡ with_time remark (view object)) }
+{
+    match remark {
+        Remark::TerminatedAfter(time) => {
+            let time = TimeText(time).to_string(alloc)?;
+            with_member(alloc, object, "terminated_after", Value::from(time))
         }
-        _ => setting_value(alloc, keys, value, &location, state, message),
+        Remark::Nothing | Remark::NoLimit => Ok(object),
     }
 }
 
 /// The object of a value that doesn't count.
-pub(crate) fn hidden_value(alloc: Global, hidden: &Hidden<'_>) -> Result<Value, AllocError>
-    ensures { IfOk result (λ object. view object ≡ hidden_data hidden.now) }
-{
-    let value = json_value(alloc, &hidden.literal.value)?;
-    let location = location_of(hidden.source);
-    setting_value(
-        alloc,
-        hidden.keys.as_slice(),
-        value,
-        &location,
-        "hidden",
-        Value::Null,
-    )
+impl ToJson for Hidden<'_> {
+    ghost json = { hidden_data };
+
+    fn to_json(&self, alloc: Global) -> Result<Value, AllocError> {
+        let value = json_value(alloc, &self.literal.value)?;
+        let location = location_of(self.source);
+        let keys = self.keys.as_slice();
+        key_value(alloc, keys, value, &location, "hidden", Value::Null)
+    }
 }
 
 // The object of a key.
-fn setting_value(
+fn key_value(
     alloc: Global,
     keys: &[&str],
     value: Value,
-    location: &Option<Location<'_>>,
+    place: &Location<'_>,
     state: &str,
     message: Value,
 ) -> Result<Value, AllocError>
-    ensures { IfOk result (λ object. view object ≡ setting_data (key_path keys.now) (view value)
-        (option_map seen_location location.now) state.now (view message)) }
+    ensures { IfOk result (λ object. view object ≡ key_data (key_path keys.now) (view value)
+        (seen_location place.now) state.now (view message)) }
 {
     json!(in alloc; {
         "key": KeyPath(keys).to_string(alloc)?,
         "value": value,
-        "profile": profile_value(alloc, location)?,
-        "path": path_value(alloc, location)?,
-        "line": line_value(location),
-        "column": column_value(location),
+        "profile": text_value(alloc, place.profile)?,
+        "path": text_value(alloc, place.path)?,
+        "line": number_value(place.line),
+        "column": number_value(place.column),
         "state": Value::try_from_str(alloc, state)?,
         "message": message,
     })
 }
 
-// The object of a key after which so often a slow test is terminated, with the time.
-fn terminating_value(
-    alloc: Global,
-    keys: &[&str],
-    value: Value,
-    place: &Option<Location<'_>>,
-    state: &str,
-    message: Value,
-    time: String,
-) -> Result<Value, AllocError>
-    ensures { IfOk result (λ object. view object ≡ terminating_data (key_path keys.now) (view value)
-        (option_map seen_location place.now) state.now (view message) (string_bytes time)) }
-{
-    json!(in alloc; {
-        "key": KeyPath(keys).to_string(alloc)?,
-        "value": value,
-        "profile": profile_value(alloc, place)?,
-        "path": path_value(alloc, place)?,
-        "line": line_value(place),
-        "column": column_value(place),
-        "state": Value::try_from_str(alloc, state)?,
-        "message": message,
-        "terminated_after": time,
-    })
+/// Where a part of a value stands.
+impl ToJson for FaultSource<'_> {
+    ghost json = { source_data };
+
+    fn to_json(&self, alloc: Global) -> Result<Value, AllocError> {
+        let location = location_of(self.source);
+        json!(in alloc; {
+            "key": KeyPath(self.keys.as_slice()).to_string(alloc)?,
+            "path": text_value(alloc, location.path)?,
+            "line": number_value(location.line),
+            "column": number_value(location.column),
+        })
+    }
 }
 
 /// The object of what the profile has at a key that no setting reads.
-pub(crate) fn other_value(alloc: Global, other: &OtherKey<'_>) -> Result<Value, AllocError>
-    ensures { IfOk result (λ object. view object ≡ other_data other.now) }
-{
-    let location = location_of(other.source);
-    json!(in alloc; {
-        "key": KeyText(other.key).to_string(alloc)?,
-        "value": json_value(alloc, &other.literal.value)?,
-        "profile": profile_value(alloc, &location)?,
-        "path": path_value(alloc, &location)?,
-        "line": line_value(&location),
-        "column": column_value(&location),
-    })
+impl ToJson for OtherKey<'_> {
+    ghost json = { other_data };
+
+    fn to_json(&self, alloc: Global) -> Result<Value, AllocError> {
+        let location = location_of(self.source);
+        json!(in alloc; {
+            "key": KeyText(self.key).to_string(alloc)?,
+            "value": json_value(alloc, &self.literal.value)?,
+            "profile": text_value(alloc, location.profile)?,
+            "path": text_value(alloc, location.path)?,
+            "line": number_value(location.line),
+            "column": number_value(location.column),
+        })
+    }
 }
 
 // The value that a key has, or null.
@@ -140,24 +149,24 @@ fn state_value(alloc: Global, state: &KeyState<'_>) -> Result<Value, AllocError>
 }
 
 // Where what a key has stands; of a value that is refused, where the first of its parts stands.
-fn state_location<'a>(state: &KeyState<'a>) -> Option<Location<'a>>
-    ensures { option_map seen_location result ≡ state_location state.now }
+fn state_location<'a>(state: &KeyState<'a>) -> Location<'a>
+    ensures { seen_location result ≡ state_location state.now }
 {
     match state {
         KeyState::Value { source, .. }
         | KeyState::NotJudged { source, .. }
         | KeyState::NoValue(source) => { location_of(*source) }
-        KeyState::Default(_) | KeyState::Implied(_) | KeyState::Unset => None,
+        KeyState::Default(_) | KeyState::Implied(_) | KeyState::Unset => Location::nowhere(),
         KeyState::Fault { sources, .. } => first_location(sources.as_slice()),
     }
 }
 
 // Where the first of the parts of a value stands.
-fn first_location<'a>(sources: &[FaultSource<'a>]) -> Option<Location<'a>>
-    ensures { option_map seen_location result ≡ first_location sources.now }
+fn first_location<'a>(sources: &[FaultSource<'a>]) -> Location<'a>
+    ensures { seen_location result ≡ first_location sources.now }
 {
     match sources {
-        [] => None,
+        [] => Location::nowhere(),
         [first, ..] => location_of(first.source),
     }
 }

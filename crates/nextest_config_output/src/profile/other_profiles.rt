@@ -4,7 +4,7 @@ ghost use Rattle.std.specs.Prelude.{◌≡◌, ◌++◌, flat_map, IfOk, OnOk, s
 ghost use Rattle.nextest_config_output.specs.Profile.OtherProfiles.{fault_line, other_profiles_text};
 
 use crate::findings::{Escaped, Escapes};
-use crate::profile::keys::KeyPath;
+use crate::profile::key_path::KeyPath;
 use crate::profile::source::FilesText;
 use nextest_config_profiles::report::{OtherProfileFault, ProfileReport};
 use std::alloc::{AllocError, Global};

@@ -61,9 +61,9 @@ impl fmt::Display for ProfileMark<'_, '_> {
 
 /// Where a value stands, for the profile with this name.
 #[derive(Clone, Copy)]
-pub(crate) struct SourceText<'a, 'b>(pub &'a str, pub Source<'b>);
+pub(crate) struct ValueSource<'a, 'b>(pub &'a str, pub Source<'b>);
 
-impl fmt::Display for SourceText<'_, '_> {
+impl fmt::Display for ValueSource<'_, '_> {
     ghost output = { λ text. Some (source_text text.0.now text.1) };
 
     fn fmt<W: fmt::Write>(&self, f: &mut fmt::Formatter<W>) -> fmt::Result {
@@ -81,16 +81,16 @@ impl fmt::Display for SourceText<'_, '_> {
 
 /// Where the parts of a value stand, for the profile with this name, with commas between.
 #[derive(Clone, Copy)]
-pub(crate) struct SourcesText<'a, 'b>(pub &'a str, pub &'b [FaultSource<'b>]);
+pub(crate) struct ValueSources<'a, 'b>(pub &'a str, pub &'b [FaultSource<'b>]);
 
-impl fmt::Display for SourcesText<'_, '_> {
+impl fmt::Display for ValueSources<'_, '_> {
     ghost output = { λ text. Some (sources_text text.0.now text.1.now) };
 
     fn fmt<W: fmt::Write>(&self, f: &mut fmt::Formatter<W>) -> fmt::Result {
         match self.1 {
             [] => Ok(()),
             [first, rest @ ..] => {
-                write!(f, "{}", SourceText(self.0, first.source))?;
+                write!(f, "{}", ValueSource(self.0, first.source))?;
                 write_sources(f, self.0, rest)
             }
         }
@@ -107,7 +107,7 @@ fn write_sources<W: fmt::Write>(
         (flat_map (λ part. codes ", " ++ source_text name.now part.source) sources.now) f.new }
 {
     for part in sources {
-        write!(f, ", {}", SourceText(name, part.source))?;
+        write!(f, ", {}", ValueSource(name, part.source))?;
     }
     Ok(())
 }

@@ -79,7 +79,8 @@ fn write_rest<W: fmt::Write>(
     f: &mut fmt::Formatter<W>,
     parts: &[(u128, &'static str)],
 ) -> fmt::Result
-    ensures { WritesOnOk W.write_str_gives f.old result (flat_map (λ part. codes " " ++ part_text part)
+    ensures { WritesOnOk W.write_str_gives f.old result
+        (flat_map (λ part. codes " " ++ part_text part)
         (filter goes_in (map (λ part. (part.0, part.1.now)) parts.now))) f.new }
 {
     match parts {

@@ -13,6 +13,6 @@ IsInheritsSource effective name source = ((name ≡ default_profile) × (source 
 
 -- a profile of the chain, as it is told
 pub record IsChainProfile (effective : EffectiveProfile) (name : List ℕ)
-    (told : ChainProfile) : Type 0 where
-  pub name_is : told.name.now ≡ name
-  pub inherits_is : IsInheritsSource effective name told.inherits
+    (shown : ChainProfile) : Type 0 where
+  pub name_is : shown.name.now ≡ name
+  pub inherits_is : IsInheritsSource effective name shown.inherits

@@ -51,8 +51,8 @@ abbrev pub IsGivenValue : {X Y : Type 0} → (X → Y) → Reading Data Y → Ef
     → List (List ℕ) → Path → Given → Type 0
 IsGivenValue seen reading = IsGivenBy seen (made_of Some reading)
 
--- what the first of profiles gives at keys by the reading of a shape; what none reads is given as it
--- is written
+-- what the first of profiles gives at keys by the reading of a shape; what none reads is given as
+-- it is written
 abbrev pub IsGivenAs : Shape → EffectiveProfile → List (List ℕ) → Path → Given → Type 0
 IsGivenAs shapes.Retries = IsGivenBy retry_policy_of retry_policy_reading
 IsGivenAs shapes.FlakyResult = IsGivenValue (λ it. it) flaky_result_reading

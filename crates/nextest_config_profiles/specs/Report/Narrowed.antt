@@ -1,4 +1,4 @@
--- Of what is told of a profile that of wanted keys alone.
+-- Of what is reported of a profile that of wanted keys alone.
 use Rattle.std.specs.Prelude.{◌&&◌, ◌||◌, ℕ, Bool, true, false, List, [], ◌∷◌, codes, filter, is_some, map, Option, Some, option_and_then}
 use Rattle.std.specs.List.{list_any}
 use Rattle.toml.specs.Data.{Data}
@@ -56,34 +56,34 @@ sets_at key keys set =
 
 -- an override has a value at these keys
 abbrev pub has_value : Path → Override → Bool
-has_value [] told = false
-has_value (key ∷ keys) told = list_any (sets_at key keys) told.settings.items
+has_value [] shown = false
+has_value (key ∷ keys) shown = list_any (sets_at key keys) shown.settings.items
 
 -- an override sets this key
 abbrev pub sets_key : Override → List ℕ → Bool
-sets_key told key = list_any (λ set. is_word set.key.now key) told.settings.items
+sets_key shown key = list_any (λ set. is_word set.key.now key) shown.settings.items
 
 -- the path is `overrides`, or leads on from there to a key that the override sets
 abbrev pub is_named_by : Override → Path → Bool
-is_named_by told [] = false
-is_named_by told (first ∷ []) = is_word first (codes "overrides")
-is_named_by told (first ∷ key ∷ keys) = is_word first (codes "overrides") && sets_key told key
+is_named_by shown [] = false
+is_named_by shown (first ∷ []) = is_word first (codes "overrides")
+is_named_by shown (first ∷ key ∷ keys) = is_word first (codes "overrides") && sets_key shown key
 
 -- a wanted path names an override
 abbrev pub is_named : List Path → Override → Bool
-is_named wanted told = list_any (is_named_by told) wanted
+is_named wanted shown = list_any (is_named_by shown) wanted
 
 -- keys are a wanted path, or lie above or below one, and an override has a value there
 abbrev pub sets_keys : List Path → Override → Path → Bool
-sets_keys wanted told keys = is_related wanted keys && has_value keys told
+sets_keys wanted shown keys = is_related wanted keys && has_value keys shown
 
 -- an override has a value at the keys of a setting that is a wanted key, or lies above or below one
 abbrev pub sets_wanted : List Path → Override → Bool
-sets_wanted wanted told = list_any (λ setting. sets_keys wanted told setting.keys) all_settings
+sets_wanted wanted shown = list_any (λ setting. sets_keys wanted shown setting.keys) all_settings
 
 -- an override sets something of a setting that is wanted, or a wanted path names it
 abbrev pub is_override_wanted : List Path → Override → Bool
-is_override_wanted wanted told = is_named wanted told || sets_wanted wanted told
+is_override_wanted wanted shown = is_named wanted shown || sets_wanted wanted shown
 
 -- of overrides those that are wanted
 abbrev pub overrides_wanted : List Path → List Override → List Override

@@ -68,8 +68,8 @@ pub record AreFaultsOf (effective : EffectiveProfile) (names : List (List ℕ))
     (setting : SettingRule) (faults : List OtherProfileFault) : Type 0 where
   pub giver : Option (List ℕ)
   pub is_giver : IsGiver effective setting giver
-  pub are_faults : AreSomes (IsFaultOf effective setting giver) (names_judged setting.rule.severity names)
-      faults
+  pub are_faults : AreSomes (IsFaultOf effective setting giver)
+      (names_judged setting.rule.severity names) faults
 
 -- what is wrong with settings of all profiles but the one that gives each, setting by setting
 pub record AreOtherProfileFaults (effective : EffectiveProfile) (faults : List OtherProfileFault) :

@@ -60,12 +60,12 @@ pub record IsElementSource (effective : EffectiveProfile) (element : ElementValu
   pub in_file : IsPlaceIn (file_in effective element.layer) span source.file
 
 -- an override, as it is told: where it begins, what selects its tests, and the keys that it sets
-pub record IsOverride (effective : EffectiveProfile) (element : ElementValue) (told : Override)
+pub record IsOverride (effective : EffectiveProfile) (element : ElementValue) (shown : Override)
     : Type 0 where
-  pub source_is : IsElementSource effective element told.source
-  pub filter_is : IsLiteralIf (member_at (codes "filter") element.value) told.filter
-  pub platform_is : IsLiteralIf (member_at (codes "platform") element.value) told.platform
-  pub settings_are : AreSettings element.value told.settings.items
+  pub source_is : IsElementSource effective element shown.source
+  pub filter_is : IsLiteralIf (member_at (codes "filter") element.value) shown.filter
+  pub platform_is : IsLiteralIf (member_at (codes "platform") element.value) shown.platform
+  pub settings_are : AreSettings element.value shown.settings.items
 
 -- the overrides of the profiles of the chain: those of a profile before those of what it falls back
 -- on, of a profile those of the highest file first

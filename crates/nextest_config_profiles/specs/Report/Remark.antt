@@ -30,8 +30,10 @@ is_number_of_periods shape member = is_slow_timeout shape && is_terminate_after 
 -- the duration that a text writes, if it is one, and below what stands for no limit
 abbrev pub IsPeriodText : Option (List ℕ) → Option ℕ → Type 0
 IsPeriodText None period = period ≡ None
-IsPeriodText (Some text) None = (nanoseconds : ℕ) → IsDuration text nanoseconds → very_large ≤ nanoseconds
-IsPeriodText (Some text) (Some nanoseconds) = IsDuration text nanoseconds × (nanoseconds < very_large)
+IsPeriodText (Some text) None =
+    (nanoseconds : ℕ) → IsDuration text nanoseconds → very_large ≤ nanoseconds
+IsPeriodText (Some text) (Some nanoseconds) =
+    IsDuration text nanoseconds × (nanoseconds < very_large)
 
 -- the period that was found, if it is one
 abbrev pub IsPeriodFound : Option LayerValue → Option ℕ → Type 0
@@ -59,8 +61,8 @@ IsEndingIf true at value remark =
     (period : Option ℕ) × IsPeriodOf at period × IsEnding period (as_integer value) remark
 IsEndingIf false at value remark = remark ≡ Nothing
 
--- what is remarked of the value of a setting, or of a key of its table: that it is a time as long as
--- none at all, or what comes of a number of periods
+-- what is remarked of the value of a setting, or of a key of its table: that it is a time as long
+-- as none at all, or what comes of a number of periods
 abbrev pub IsRemark : At → Option (List ℕ) → Data → Remark → Type 0
 IsRemark at member value remark =
     (IsNoLimit at.setting.rule.shape member value × (remark ≡ NoLimit))

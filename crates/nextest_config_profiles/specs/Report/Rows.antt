@@ -39,7 +39,7 @@ at_of given = record {
   profile = given.profile.now;
   setting = rule_of given.setting;
   judged = given.is_judged;
-  hiding = given.tells_hidden;
+  hiding = given.shows_hidden;
 }
 
 -- ---- a value that stands in a layer

@@ -1,5 +1,5 @@
 -- The settings that are told, as the table of keys has them.
-use Rattle.std.specs.Prelude.{Bool, true, false, if◌then◌else◌, List, [], ◌∷◌, ◌++◌, map, Some, None}
+use Rattle.std.specs.Prelude.{Bool, true, false, if◌then◌else◌, List, [], ◌∷◌, ◌++◌, Some, None}
 use Rattle.nextest_config_elements.specs.Fields.{Absent, by_backoff, elements, field, Fields, fields, fields_in, inherited, KeyRule, no_fields, Parts, parts_of}
 use Rattle.nextest_config_elements.specs.Fields.{rule_of as rule_of_field}
 use Rattle.nextest_config_elements.specs.Keys.{profile_fields}
@@ -10,7 +10,7 @@ use Rattle.nextest_config_elements.specs.declared.field.Shape.TheVariants.{Table
 use Rattle.nextest_config_profiles.specs.Reach.{words_of}
 use Rattle.nextest_config_profiles.specs.Said.{Path}
 use Rattle.nextest_config_profiles.specs.declared.report.setting.OwnedSetting.{OwnedSetting}
-use Rattle.nextest_config_profiles.specs.declared.report.setting.Setting.{Setting}
+use Rattle.nextest_config_profiles.specs.declared.report.setting.KnownSetting.{KnownSetting}
 
 -- what fields say of their keys, in their order
 abbrev pub rules_in : Fields → List KeyRule
@@ -78,14 +78,10 @@ abbrev pub parts_in : declared.Field → Parts
 parts_in known = parts_of (out-Field known).parts
 
 -- a setting, by the code's table
-abbrev pub rule_of : Setting → SettingRule
-rule_of told = record {
-  keys = words_of told.keys.now;
-  rule = member_of told.field.now;
-  members = map member_of told.members.now;
-}
+abbrev pub rule_of : KnownSetting → SettingRule
+rule_of held = setting (words_of held.keys.now) (member_of held.field.now) (parts_in held.field.now)
 
 -- a setting that owns its path, by the code's table
 abbrev pub rule_owned : OwnedSetting → SettingRule
-rule_owned told =
-    setting (words_of told.keys.items) (member_of told.field.now) (parts_in told.field.now)
+rule_owned held =
+    setting (words_of held.keys.items) (member_of held.field.now) (parts_in held.field.now)

@@ -9,14 +9,14 @@ use Rattle.nextest_config_profiles.specs.declared.report.parts.FilePlace.{FilePl
 use Rattle.nextest_config_profiles.specs.declared.report.parts.Source.{Source}
 
 -- the path of the file, and where a range of it begins
-pub record IsFilePlace (file : Layer) (span : Option Span) (told : FilePlace) : Type 0 where
-  pub path : told.path.now ≡ string_bytes file.source.now.path
-  pub place : told.place ≡ option_map (λ span. span.begin) span
+pub record IsFilePlace (file : Layer) (span : Option Span) (found : FilePlace) : Type 0 where
+  pub path : found.path.now ≡ string_bytes file.source.now.path
+  pub place : found.place ≡ option_map (λ span. span.begin) span
 
 -- the file of a layer, and where a range of it begins, if the layer is a file
 abbrev pub IsPlaceIn : Option Layer → Option Span → Option FilePlace → Type 0
-IsPlaceIn None span told = told ≡ None
-IsPlaceIn (Some file) span told = MatchOption told ⊥ (IsFilePlace file span)
+IsPlaceIn None span found = found ≡ None
+IsPlaceIn (Some file) span found = MatchOption found ⊥ (IsFilePlace file span)
 
 -- where a value stands: a profile has it, in the file of a layer, where its index has the path
 pub record IsSource (effective : EffectiveProfile) (layer : ℕ) (profile : List ℕ) (keys : Path)

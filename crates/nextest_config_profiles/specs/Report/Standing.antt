@@ -74,5 +74,5 @@ abbrev pub standing_of : Standing → StandingValue
 standing_of standing = record {
   profile = standing.profile.now;
   layer = standing.layer;
-  reached = record { depth = standing.depth; value = view standing.value.now };
+  reached = reached_of standing.reached;
 }

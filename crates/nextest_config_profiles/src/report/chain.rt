@@ -3,11 +3,11 @@
 ghost use Rattle.std.specs.Prelude.{IfOk};
 ghost use Rattle.std.specs.List.{AllZip};
 ghost use Rattle.nextest_config_profiles.specs.Profile.{chain_in};
-ghost use Rattle.nextest_config_profiles.specs.Report.Chain.{IsChainProfile, IsInheritsSource};
+ghost use Rattle.nextest_config_profiles.specs.Report.Chain.{IsChainProfile};
 
 use crate::EffectiveProfile;
 use crate::report::last::last_source;
-use crate::report::parts::{ChainProfile, Source};
+use crate::report::parts::ChainProfile;
 use std::alloc::{AllocError, Global};
 
 /// The profile and those that it falls back on.
@@ -26,7 +26,7 @@ pub(crate) fn chain<'p>(
     Ok(chain)
 }
 
-// A profile of the chain.
+// A profile of the chain, with where it stands what it inherits from.
 fn chain_profile<'p>(
     alloc: Global,
     effective: &'p EffectiveProfile<'p>,
@@ -34,21 +34,10 @@ fn chain_profile<'p>(
 ) -> Result<ChainProfile<'p>, AllocError>
     ensures { IfOk result (IsChainProfile effective.now name.now) }
 {
-    let inherits = inherits_source(alloc, effective, name)?;
+    let inherits = if name == "default" {
+        None
+    } else {
+        last_source(alloc, effective, name, &["inherits"])?
+    };
     Ok(ChainProfile { name, inherits })
-}
-
-// Where it stands what a profile inherits from.
-fn inherits_source<'p>(
-    alloc: Global,
-    effective: &'p EffectiveProfile<'p>,
-    name: &'p str,
-) -> Result<Option<Source<'p>>, AllocError>
-    ensures { IfOk result (IsInheritsSource effective.now name.now) }
-{
-    if name == "default" {
-        return Ok(None);
-    }
-    let source = last_source(alloc, effective, name, &["inherits"])?;
-    Ok(source)
 }

@@ -3,7 +3,7 @@
 ghost use Rattle.std.specs.Prelude.{◌≡◌, ◌++◌, IfOk, map, OnOk, option_map};
 ghost use Rattle.toml.specs.View.{items_view, view};
 ghost use Rattle.nextest_config_profiles.specs.Profile.{chain_in, layer_at, layers_in};
-ghost use Rattle.nextest_config_profiles.specs.Report.Elements.{all_elements, element_of, elements_below, elements_in, overrides_in};
+ghost use Rattle.nextest_config_profiles.specs.Report.Elements.{all_elements, element_of, elements_below, numbered_if, overrides_in};
 
 use crate::EffectiveProfile;
 use crate::report::standing::of_profile;
@@ -53,22 +53,23 @@ fn push_below<'p>(
         return Ok(());
     }
     let layer = layers - 1;
-    push_in(effective, profile, layer, elements)?;
+    let items = overrides_in(of_profile(effective, profile, layer));
+    push_items(profile, layer, items, elements)?;
     push_below(effective, profile, layer, elements)?;
     Ok(())
 }
 
-// Pushes the overrides that a layer has for a profile.
-fn push_in<'p>(
-    effective: &'p EffectiveProfile<'_>,
+// Pushes the overrides that a layer has for a profile, if it has some.
+fn push_items<'p>(
     profile: &'p str,
     layer: usize,
+    items: Option<&'p [Value]>,
     elements: &mut Vec<Element<'p>>,
 ) -> Result<(), AllocError>
     ensures { OnOk result (map element_of elements.new.items ≡ map element_of elements.old.items
-        ++ elements_in (layers_in effective.now) profile.now layer) }
+        ++ numbered_if profile.now layer (option_map (λ items. items_view items.now) items.entry)) }
 {
-    let Some(items) = overrides_in(of_profile(effective, profile, layer)) else {
+    let Some(items) = items else {
         return Ok(());
     };
     for (position, value) in items.iter().enumerate() {

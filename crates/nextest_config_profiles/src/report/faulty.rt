@@ -4,16 +4,15 @@ ghost use Rattle.std.specs.Prelude.{◌∷◌, [], IfOk, map, string_bytes};
 ghost use Rattle.nextest_config_values.specs.Read.{fault_of};
 ghost use Rattle.nextest_config_profiles.specs.Reach.{words_of};
 ghost use Rattle.nextest_config_profiles.specs.Report.Rows.{AreOrWhole, ArePlacesAt, ArePlacesOf, IsBareRow, IsFaultState, IsMessage, IsPlaceOf, keys_of_member, parts_of};
-ghost use Rattle.nextest_config_profiles.specs.Report.Setting.{member_of, rule_of};
+ghost use Rattle.nextest_config_profiles.specs.Report.Setting.{rule_of};
 
 use crate::report::keys::{copy_of, with_key};
 use crate::report::last::{last_at, last_source};
 use crate::report::parts::{FaultSource, KeyState, Row};
 use crate::report::rows::bare_row;
-use crate::report::setting::Setting;
+use crate::report::setting::KnownSetting;
 use crate::report::somes::push_some;
 use crate::{EffectiveProfile, LayerValue};
-use nextest_config_elements::field::Field;
 use nextest_config_values::read::ValueFault;
 use std::alloc::{AllocError, Global};
 
@@ -22,7 +21,7 @@ pub(crate) fn fault_row<'p>(
     alloc: Global,
     effective: &'p EffectiveProfile<'p>,
     profile: &'p str,
-    setting: Setting<'_>,
+    setting: KnownSetting<'_>,
     fault: ValueFault,
 ) -> Result<Row<'p>, AllocError>
     ensures { IfOk result (IsBareRow (rule_of setting.entry).keys
@@ -41,11 +40,11 @@ pub(crate) fn message(alloc: Global, fault: ValueFault) -> Result<String, AllocE
     if fault.is_memory() {
         return Err(AllocError);
     }
-    let told = fault.at(alloc, "");
-    if told.kind.is_memory() {
+    let refused = fault.at(alloc, "");
+    if refused.kind.is_memory() {
         return Err(AllocError);
     }
-    let text = told.to_string(alloc)?;
+    let text = refused.to_string(alloc)?;
     Ok(text)
 }
 
@@ -54,7 +53,7 @@ pub(crate) fn places<'p>(
     alloc: Global,
     effective: &'p EffectiveProfile<'p>,
     profile: &'p str,
-    setting: Setting<'_>,
+    setting: KnownSetting<'_>,
 ) -> Result<Vec<FaultSource<'p>>, AllocError>
     ensures { IfOk result (λ sources.
         ArePlacesOf effective.now profile.now (rule_of setting.entry) sources.items) }
@@ -70,7 +69,7 @@ fn part_places<'p>(
     alloc: Global,
     effective: &'p EffectiveProfile<'p>,
     profile: &'p str,
-    setting: Setting<'_>,
+    setting: KnownSetting<'_>,
     found: Option<LayerValue<'p>>,
 ) -> Result<Vec<FaultSource<'p>>, AllocError>
     ensures { IfOk result (λ sources. ArePlacesAt effective.now profile.now
@@ -78,7 +77,7 @@ fn part_places<'p>(
 {
     match found {
         Some(found) if found.value.is_table() => {
-            member_places(alloc, effective, profile, setting, setting.members)
+            member_places(alloc, effective, profile, setting)
         }
         Some(_) => Ok(Vec::new(alloc)),
         None => Ok(Vec::new(alloc)),
@@ -124,13 +123,13 @@ fn member_places<'p>(
     alloc: Global,
     effective: &'p EffectiveProfile<'p>,
     profile: &'p str,
-    setting: Setting<'_>,
-    members: &'static [Field],
+    setting: KnownSetting<'_>,
 ) -> Result<Vec<FaultSource<'p>>, AllocError>
     ensures { IfOk result (λ sources. ArePlacesAt effective.now profile.now
-        (map (keys_of_member (rule_of setting.entry).keys) (map member_of members.now))
+        (map (keys_of_member (rule_of setting.entry).keys) (rule_of setting.entry).members)
         sources.items) }
 {
+    let members = setting.members();
     let mut sources = Vec::new(alloc);
     for member in members {
         let keys = with_key(alloc, setting.keys, member.key)?;

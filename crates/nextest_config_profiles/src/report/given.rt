@@ -11,7 +11,7 @@ use crate::effective::first_given;
 use crate::profile_alone::ProfileAlone;
 use crate::report::converted::{read_rest, unconverted};
 use crate::report::keys::path_in;
-use crate::report::setting::Setting;
+use crate::report::setting::KnownSetting;
 use crate::report::written::{Written, is_documented};
 use crate::{Effective, EffectiveProfile};
 use nextest_config_elements::field::{Field, Shape};
@@ -41,13 +41,13 @@ pub(crate) enum Given<'p> {
     Nothing,
 }
 
-/// What the first of these profiles that has a setting gives it, but for what nextest may convert in
-/// it.
+/// What the first of these profiles that has a setting gives it, but for what nextest may convert
+/// in it.
 pub(crate) fn given_for<'p>(
     alloc: Global,
     effective: &EffectiveProfile<'_>,
     profiles: &[ProfileAlone<'p>],
-    setting: Setting<'_>,
+    setting: KnownSetting<'_>,
 ) -> Result<Given<'p>, AllocError>
     requires { AreLookedUp (layers_in effective.now) profiles.now }
     ensures { IfOk result
@@ -68,7 +68,7 @@ pub(crate) fn given_for<'p>(
 fn judged_fault<'p>(
     alloc: Global,
     effective: &EffectiveProfile<'_>,
-    setting: Setting<'_>,
+    setting: KnownSetting<'_>,
     name: &'p str,
     fault: ValueFault,
 ) -> Result<Given<'p>, AllocError>
@@ -90,7 +90,7 @@ fn judged_fault<'p>(
 // What is given for a setting, where the layers come to this value, which has a fault.
 fn judged_value<'p>(
     alloc: Global,
-    setting: Setting<'_>,
+    setting: KnownSetting<'_>,
     name: &'p str,
     fault: ValueFault,
     value: Value,
@@ -118,10 +118,11 @@ fn read_for<'p>(
     alloc: Global,
     effective: &EffectiveProfile<'_>,
     profiles: &[ProfileAlone<'p>],
-    setting: Setting<'_>,
+    setting: KnownSetting<'_>,
 ) -> Result<Given<'p>, AllocError>
     requires { AreLookedUp (layers_in effective.now) profiles.now }
-    ensures { IfOk result (IsReadFor effective.now (names_of profiles.now) (rule_of setting.entry)) }
+    ensures { IfOk result
+        (IsReadFor effective.now (names_of profiles.now) (rule_of setting.entry)) }
 {
     let keys = setting.keys;
     match shape_read(setting.field) {

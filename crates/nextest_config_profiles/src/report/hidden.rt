@@ -15,17 +15,17 @@ use crate::report::standing::{Standing, hidden};
 use std::alloc::{AllocError, Global};
 
 /// What lies below a layer at keys of the profile that gives a setting, and what later profiles of
-/// the chain have there, if that is to be told.
+/// the chain have there, if that is to be shown.
 pub(crate) fn hidden_rows<'p>(
     alloc: Global,
     given: GivenSetting<'_, 'p>,
     keys: &[&'p str],
     layer: usize,
 ) -> Result<Vec<Hidden<'p>>, AllocError>
-    ensures { IfOk result (λ rows. AreHidden given.entry.effective.now given.entry.tells_hidden
+    ensures { IfOk result (λ rows. AreHidden given.entry.effective.now given.entry.shows_hidden
         given.entry.profile.now (words_of keys.now) layer rows.items) }
 {
-    if !given.tells_hidden {
+    if !given.shows_hidden {
         return Ok(Vec::new(alloc));
     }
     let standings = hidden(alloc, given.effective, given.profile, keys, layer)?;
@@ -57,10 +57,10 @@ fn hidden_row<'p>(
 ) -> Result<Hidden<'p>, AllocError>
     ensures { IfOk result (IsHidden effective.now (words_of keys.now) (standing_of standing.now)) }
 {
-    let keys = front_of(alloc, keys, standing.depth)?;
+    let keys = front_of(alloc, keys, standing.reached.depth)?;
     let Standing { profile, layer, .. } = *standing;
     let source = source_of(alloc, effective, layer, profile, keys.as_slice())?;
-    let literal = Literal::of(alloc, standing.value.clone()?)?;
+    let literal = Literal::of(alloc, standing.reached.value.clone()?)?;
     Ok(Hidden {
         keys,
         literal,

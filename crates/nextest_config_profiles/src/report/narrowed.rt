@@ -1,4 +1,4 @@
-//! Of what is told of a profile that of wanted keys alone.
+//! Of what is reported of a profile that of wanted keys alone.
 
 ghost use Rattle.std.specs.Prelude.{◌≡◌, ◌&&◌, ◌∷◌, [], map, option_map, string_bytes};
 ghost use Rattle.std.specs.List.{list_any};
@@ -66,91 +66,92 @@ fn keep_others(others: &mut Vec<OtherKey<'_>>, wanted: &[WantedKey])
 fn keep_overrides(overrides: &mut Vec<Override<'_>>, wanted: &[WantedKey])
     ensures { overrides.new.items ≡ overrides_wanted (map path_of wanted.now) overrides.old.items }
 {
-    overrides.retain(|told| is_override_wanted(told, wanted));
+    overrides.retain(|shown| is_override_wanted(shown, wanted));
 }
 
 // Whether an override sets something of a setting that is wanted, or a wanted path names it.
-fn is_override_wanted(told: &Override<'_>, wanted: &[WantedKey]) -> bool
-    ensures { result ≡ is_override_wanted (map path_of wanted.now) told.now }
+fn is_override_wanted(shown: &Override<'_>, wanted: &[WantedKey]) -> bool
+    ensures { result ≡ is_override_wanted (map path_of wanted.now) shown.now }
 {
-    is_named(told, wanted) || sets_wanted(told, wanted)
+    is_named(shown, wanted) || sets_wanted(shown, wanted)
 }
 
 // Whether a wanted path names an override.
-fn is_named(told: &Override<'_>, wanted: &[WantedKey]) -> bool
-    ensures { result ≡ is_named (map path_of wanted.now) told.now }
+fn is_named(shown: &Override<'_>, wanted: &[WantedKey]) -> bool
+    ensures { result ≡ is_named (map path_of wanted.now) shown.now }
 {
-    wanted.iter().any(|key| is_named_by(told, key.keys()))
+    wanted.iter().any(|key| is_named_by(shown, key.keys()))
 }
 
 // Whether an override has a value at the keys of a setting that is a wanted key, or lies above or
 // below one.
-fn sets_wanted(told: &Override<'_>, wanted: &[WantedKey]) -> bool
-    ensures { result ≡ sets_wanted (map path_of wanted.now) told.now }
+fn sets_wanted(shown: &Override<'_>, wanted: &[WantedKey]) -> bool
+    ensures { result ≡ sets_wanted (map path_of wanted.now) shown.now }
 {
     let fields = profile_fields();
-    fields.iter().any(|field| sets_itself(told, wanted, field))
+    fields.iter().any(|field| sets_itself(shown, wanted, field))
         || fields
             .iter()
-            .any(|field| sets_in_table(told, wanted, field))
+            .any(|field| sets_in_table(shown, wanted, field))
 }
 
 // Whether a key of a profile is a setting that is wanted, and an override has a value there.
-fn sets_itself(told: &Override<'_>, wanted: &[WantedKey], field: &'static Field) -> bool
+fn sets_itself(shown: &Override<'_>, wanted: &[WantedKey], field: &'static Field) -> bool
     ensures { result ≡ (is_setting [] (member_of field.now).absent
-        && sets_keys (map path_of wanted.now) told.now ((member_of field.now).key ∷ [])) }
+        && sets_keys (map path_of wanted.now) shown.now ((member_of field.now).key ∷ [])) }
 {
-    is_setting(&[], field.absent) && sets_keys(told, wanted, &[field.key])
+    is_setting(&[], field.absent) && sets_keys(shown, wanted, &[field.key])
 }
 
 // Whether some setting in the table at a key of a profile is wanted, and an override has a value
 // there.
-fn sets_in_table(told: &Override<'_>, wanted: &[WantedKey], table: &'static Field) -> bool
-    ensures { result ≡ list_any (λ setting. sets_keys (map path_of wanted.now) told.now setting.keys)
+fn sets_in_table(shown: &Override<'_>, wanted: &[WantedKey], table: &'static Field) -> bool
+    ensures { result ≡ list_any
+        (λ setting. sets_keys (map path_of wanted.now) shown.now setting.keys)
         (settings_at ((member_of table.now).key ∷ [])
         (table_fields (member_of table.now).shape (parts_in table.now))) }
 {
     table_fields(table)
         .iter()
-        .any(|field| sets_below(told, wanted, table.key, field))
+        .any(|field| sets_below(shown, wanted, table.key, field))
 }
 
 // Whether a key of the table at a key of a profile is such a setting.
 fn sets_below(
-    told: &Override<'_>,
+    shown: &Override<'_>,
     wanted: &[WantedKey],
     table: &'static str,
     field: &'static Field,
 ) -> bool
     ensures { result ≡ (is_setting (table.now ∷ []) (member_of field.now).absent
-        && sets_keys (map path_of wanted.now) told.now
+        && sets_keys (map path_of wanted.now) shown.now
         (table.now ∷ (member_of field.now).key ∷ [])) }
 {
-    is_setting(&[table], field.absent) && sets_keys(told, wanted, &[table, field.key])
+    is_setting(&[table], field.absent) && sets_keys(shown, wanted, &[table, field.key])
 }
 
 // Whether keys are a wanted path, or lie above or below one, and an override has a value there.
-fn sets_keys(told: &Override<'_>, wanted: &[WantedKey], keys: &[&str]) -> bool
-    ensures { result ≡ sets_keys (map path_of wanted.now) told.now (words_of keys.now) }
+fn sets_keys(shown: &Override<'_>, wanted: &[WantedKey], keys: &[&str]) -> bool
+    ensures { result ≡ sets_keys (map path_of wanted.now) shown.now (words_of keys.now) }
 {
-    is_related(keys, wanted) && has_value(told, keys)
+    is_related(keys, wanted) && has_value(shown, keys)
 }
 
 // Whether a path is `overrides`, or leads on from there to a key that the override sets.
-fn is_named_by(told: &Override<'_>, keys: &[String]) -> bool
-    ensures { result ≡ is_named_by told.now (map string_bytes keys.now) }
+fn is_named_by(shown: &Override<'_>, keys: &[String]) -> bool
+    ensures { result ≡ is_named_by shown.now (map string_bytes keys.now) }
 {
     match keys {
         [] => false,
         [first] => first.as_str() == "overrides",
-        [first, key, ..] => first.as_str() == "overrides" && sets_key(told, key.as_str()),
+        [first, key, ..] => first.as_str() == "overrides" && sets_key(shown, key.as_str()),
     }
 }
 
-fn sets_key(told: &Override<'_>, key: &str) -> bool
-    ensures { result ≡ sets_key told.now key.now }
+fn sets_key(shown: &Override<'_>, key: &str) -> bool
+    ensures { result ≡ sets_key shown.now key.now }
 {
-    told.settings.iter().any(|set| set.key == key)
+    shown.settings.iter().any(|set| set.key == key)
 }
 
 // Whether keys are a wanted path, or lie above or below one.
@@ -174,12 +175,12 @@ fn are_related(keys: &[&str], other: &[String]) -> bool
 }
 
 // Whether an override has a value at keys.
-fn has_value(told: &Override<'_>, keys: &[&str]) -> bool
-    ensures { result ≡ has_value (words_of keys.now) told.now }
+fn has_value(shown: &Override<'_>, keys: &[&str]) -> bool
+    ensures { result ≡ has_value (words_of keys.now) shown.now }
 {
     match keys {
         [] => false,
-        [key, keys @ ..] => some_sets(told.settings.as_slice(), key, keys),
+        [key, keys @ ..] => some_sets(shown.settings.as_slice(), key, keys),
     }
 }
 

@@ -13,7 +13,7 @@ use crate::report::faulty::{message, places};
 use crate::report::given::{Given, given_for};
 use crate::report::keys::copy_of;
 use crate::report::parts::OtherProfileFault;
-use crate::report::setting::Setting;
+use crate::report::setting::KnownSetting;
 use crate::report::somes::push_some;
 use crate::report::written::is_documented;
 use nextest_config_values::read::ValueFault;
@@ -35,7 +35,7 @@ pub(crate) fn giver_of<'p>(given: &Given<'p>) -> Option<&'p str>
 pub(crate) fn faults_of<'p>(
     alloc: Global,
     effective: &'p EffectiveProfile<'p>,
-    setting: Setting<'_>,
+    setting: KnownSetting<'_>,
     giver: Option<&str>,
     profiles: &[ProfileAlone<'p>],
 ) -> Result<Vec<OtherProfileFault<'p>>, AllocError>
@@ -61,7 +61,7 @@ pub(crate) fn faults_of<'p>(
 fn fault_of<'p>(
     alloc: Global,
     effective: &'p EffectiveProfile<'p>,
-    setting: Setting<'_>,
+    setting: KnownSetting<'_>,
     giver: Option<&str>,
     profile: &ProfileAlone<'p>,
 ) -> Result<Option<OtherProfileFault<'p>>, AllocError>
@@ -80,7 +80,7 @@ fn fault_of<'p>(
 fn fault_if<'p>(
     alloc: Global,
     effective: &'p EffectiveProfile<'p>,
-    setting: Setting<'_>,
+    setting: KnownSetting<'_>,
     profile: &ProfileAlone<'p>,
 ) -> Result<Option<OtherProfileFault<'p>>, AllocError>
     requires { IsLookedUp (layers_in effective.now) profile.now }
@@ -99,7 +99,7 @@ fn fault_if<'p>(
 fn fault_of_given<'p>(
     alloc: Global,
     effective: &'p EffectiveProfile<'p>,
-    setting: Setting<'_>,
+    setting: KnownSetting<'_>,
     profile: &'p str,
     given: Given<'p>,
 ) -> Result<Option<OtherProfileFault<'p>>, AllocError>
@@ -119,7 +119,7 @@ fn fault_of_given<'p>(
 fn other_profile_fault<'p>(
     alloc: Global,
     effective: &'p EffectiveProfile<'p>,
-    setting: Setting<'_>,
+    setting: KnownSetting<'_>,
     profile: &'p str,
     fault: ValueFault,
 ) -> Result<OtherProfileFault<'p>, AllocError>

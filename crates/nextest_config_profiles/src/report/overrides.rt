@@ -8,7 +8,7 @@ ghost use Rattle.nextest_config_profiles.specs.Profile.{file_in};
 ghost use Rattle.nextest_config_profiles.specs.Reach.{words_of};
 ghost use Rattle.nextest_config_profiles.specs.Report.Elements.{element_of};
 ghost use Rattle.nextest_config_profiles.specs.Report.Literal.{IsLiteralIf};
-ghost use Rattle.nextest_config_profiles.specs.Report.Overrides.{AreOverrides, AreSettings, IsElementSource, IsOverride, IsSet, IsSpanOfElement, is_told, member_at, override_keys, steps_to_element};
+ghost use Rattle.nextest_config_profiles.specs.Report.Overrides.{AreOverrides, AreSettings, IsOverride, IsSet, IsSpanOfElement, is_told, member_at, override_keys, steps_to_element};
 
 use crate::EffectiveProfile;
 use crate::report::elements::{Element, all_elements};
@@ -70,6 +70,7 @@ fn overrides_of<'p>(
     Ok(overrides)
 }
 
+// What is told of an override, and where it begins.
 fn override_of<'p>(
     alloc: Global,
     effective: &'p EffectiveProfile<'p>,
@@ -77,27 +78,17 @@ fn override_of<'p>(
 ) -> Result<Override<'p>, AllocError>
     ensures { IfOk result (IsOverride effective.now (element_of element.now)) }
 {
+    let steps = steps_to(alloc, element)?;
+    let span = span_of(effective, element.layer, steps.as_slice());
+    let source = Source {
+        profile: element.profile,
+        file: file_place(effective, element.layer, span),
+    };
     Ok(Override {
-        source: source_of(alloc, effective, element)?,
+        source,
         filter: literal_at(alloc, element.value, "filter")?,
         platform: literal_at(alloc, element.value, "platform")?,
         settings: settings(alloc, element.value)?,
-    })
-}
-
-// Where an override begins.
-fn source_of<'p>(
-    alloc: Global,
-    effective: &'p EffectiveProfile<'p>,
-    element: &Element<'p>,
-) -> Result<Source<'p>, AllocError>
-    ensures { IfOk result (IsElementSource effective.now (element_of element.now)) }
-{
-    let steps = steps_to(alloc, element)?;
-    let span = span_of(effective, element.layer, steps.as_slice());
-    Ok(Source {
-        profile: element.profile,
-        file: file_place(effective, element.layer, span),
     })
 }
 

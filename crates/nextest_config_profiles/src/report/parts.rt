@@ -1,4 +1,5 @@
-//! The parts of a report on a profile: its settings, what else it has, and what overrides may change.
+//! The parts of a report on a profile: its settings, what else it has, and what overrides may
+//! change.
 
 use std::time::Duration;
 use toml::Value;

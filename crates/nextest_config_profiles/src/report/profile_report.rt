@@ -18,7 +18,7 @@ use crate::report::others::others;
 use crate::report::overrides::overrides;
 use crate::report::parts::{ChainProfile, KeyState, OtherKey, OtherProfileFault, Override, Row};
 use crate::report::rows::rows_of;
-use crate::report::setting::{Setting, all_settings};
+use crate::report::setting::{KnownSetting, all_settings};
 use crate::{EffectiveProfile, profile_names};
 use std::alloc::{AllocError, Global};
 
@@ -43,11 +43,11 @@ impl<'a> ProfileReport<'a> {
     pub fn of(
         alloc: Global,
         effective: &'a EffectiveProfile<'a>,
-        tells_hidden: bool,
+        shows_hidden: bool,
     ) -> Result<Self, AllocError>
-        ensures { IfOk result (IsReport effective.now tells_hidden) }
+        ensures { IfOk result (IsReport effective.now shows_hidden) }
     {
-        let report = settings_report(alloc, effective, tells_hidden)?;
+        let report = settings_report(alloc, effective, shows_hidden)?;
         Ok(ProfileReport {
             chain: chain(alloc, effective)?,
             settings: report.rows,
@@ -78,9 +78,9 @@ struct SettingsReport<'a> {
 fn settings_report<'a>(
     alloc: Global,
     effective: &'a EffectiveProfile<'a>,
-    tells_hidden: bool,
+    shows_hidden: bool,
 ) -> Result<SettingsReport<'a>, AllocError>
-    ensures rows { IfOk result (λ report. AllZip (AreRows effective.now tells_hidden) all_settings
+    ensures rows { IfOk result (λ report. AllZip (AreRows effective.now shows_hidden) all_settings
         (map (λ rows. rows.items) report.rows.items)) }
     ensures faults { IfOk result (λ report.
         AreOtherProfileFaults effective.now report.faults.items) }
@@ -99,7 +99,7 @@ fn settings_report<'a>(
         faults: Vec::new(alloc),
     };
     for setting in &settings {
-        push_setting(alloc, profiles, setting.lent(), tells_hidden, &mut report)?;
+        push_setting(alloc, profiles, setting.lent(), shows_hidden, &mut report)?;
     }
     Ok(report)
 }
@@ -108,13 +108,13 @@ fn settings_report<'a>(
 fn push_setting<'a>(
     alloc: Global,
     profiles: Profiles<'_, 'a>,
-    setting: Setting<'_>,
-    tells_hidden: bool,
+    setting: KnownSetting<'_>,
+    shows_hidden: bool,
     report: &mut SettingsReport<'a>,
 ) -> Result<(), AllocError>
     requires { AreProfiles profiles }
     ensures rows { OnOk result ((rows : List Row)
-        × AreRows profiles.entry.effective.now tells_hidden (rule_of setting.entry) rows
+        × AreRows profiles.entry.effective.now shows_hidden (rule_of setting.entry) rows
         × (map (λ rows. rows.items) report.new.rows.items
         ≡ map (λ rows. rows.items) report.old.rows.items ++ rows ∷ [])) }
     ensures faults { OnOk result ((added : List OtherProfileFault)
@@ -125,7 +125,7 @@ fn push_setting<'a>(
     let effective = profiles.effective;
     let given = given_for(alloc, effective, profiles.chain, setting)?;
     let giver = giver_of(&given);
-    let rows = rows_of(alloc, effective, setting, tells_hidden, given)?;
+    let rows = rows_of(alloc, effective, setting, shows_hidden, given)?;
     report.rows.push(rows)?;
     let mut added = faults_of(alloc, effective, setting, giver, profiles.all)?;
     report.faults.append(&mut added)?;

@@ -1,11 +1,11 @@
 //! What is told of a setting, key by key.
 
-ghost use Rattle.std.specs.Prelude.{◌≡◌, ◌∷◌, ◌↔◌, [], filter, IfOk, IsTrue, map, MatchOption, None, option_map, Some};
+ghost use Rattle.std.specs.Prelude.{◌≡◌, ◌∷◌, ◌↔◌, [], filter, IfOk, IsTrue, option_map};
 ghost use Rattle.std.specs.List.{AllZip};
 ghost use Rattle.toml.specs.View.{view};
 ghost use Rattle.nextest_config_elements.specs.Fields.{absent_of};
 ghost use Rattle.nextest_config_profiles.specs.Reach.{words_of};
-ghost use Rattle.nextest_config_profiles.specs.Report.Rows.{AreImplied, AreRowsFor, AreRowsOf, AreValueRows, AreWholeRows, at_of, has_parts, IsAbsentRow, IsGivenRow, IsGivenState, IsImpliedRow, IsMemberRow, IsFoundMember, is_implied, IsNothingRow, IsNothingState, IsSure, IsTakenAway, stands_for_table};
+ghost use Rattle.nextest_config_profiles.specs.Report.Rows.{AreImplied, AreRowsFor, AreRowsOf, AreValueRows, AreWholeRows, at, at_of, has_parts, IsAbsentRow, IsGivenRow, IsGivenState, IsImpliedRow, IsMemberRow, IsFoundMember, is_implied, IsNothingRow, IsSure, IsTakenAway, stands_for_table};
 ghost use Rattle.nextest_config_profiles.specs.Report.Setting.{member_of, rule_of};
 
 use crate::report::absent::{is_taken, taken};
@@ -16,7 +16,7 @@ use crate::report::keys::{copy_of, with_key};
 use crate::report::last::last_at;
 use crate::report::parts::{KeyState, Literal, Row};
 use crate::report::remark::remark_of;
-use crate::report::setting::Setting;
+use crate::report::setting::KnownSetting;
 use crate::report::source::source_of;
 use crate::report::written::is_doubted;
 use crate::{EffectiveProfile, LayerValue};
@@ -30,46 +30,38 @@ use toml::Value;
 pub(crate) struct GivenSetting<'s, 'p> {
     pub effective: &'p EffectiveProfile<'p>,
     pub profile: &'p str,
-    pub setting: Setting<'s>,
+    pub setting: KnownSetting<'s>,
     pub is_judged: bool,
-    pub tells_hidden: bool,
+    pub shows_hidden: bool,
 }
 
 /// The rows of a setting for which this is given.
 pub(crate) fn rows_of<'p>(
     alloc: Global,
     effective: &'p EffectiveProfile<'p>,
-    setting: Setting<'_>,
-    tells_hidden: bool,
+    setting: KnownSetting<'_>,
+    shows_hidden: bool,
     given: Given<'p>,
 ) -> Result<Vec<Row<'p>>, AllocError>
     ensures { IfOk result (λ rows.
-        AreRowsFor effective.now tells_hidden (rule_of setting.entry) given.entry rows.items) }
+        AreRowsFor effective.now shows_hidden (rule_of setting.entry) given.entry rows.items) }
 {
-    let (profile, is_judged) = match given {
-        Given::Value { profile } => (profile, true),
-        Given::NotJudged { profile } => (profile, false),
+    match given {
+        Given::Value { profile } => {
+            value_rows(alloc, effective, setting, shows_hidden, profile, true)
+        }
+        Given::NotJudged { profile } => {
+            value_rows(alloc, effective, setting, shows_hidden, profile, false)
+        }
         Given::Fault { profile, fault } => {
             let row = fault_row(alloc, effective, profile, setting, fault)?;
-            let rows = alone(alloc, row)?;
-            return Ok(rows);
+            alone(alloc, row)
         }
         Given::Nothing => {
             let row = nothing_row(alloc, effective, setting)?;
-            let rows = alone(alloc, row)?;
-            return Ok(rows);
+            alone(alloc, row)
         }
-    };
-    value_rows(
-        alloc,
-        GivenSetting {
-            effective,
-            profile,
-            setting,
-            is_judged,
-            tells_hidden,
-        },
-    )
+    }
 }
 
 // A list of one row.
@@ -86,30 +78,20 @@ fn alone<'p>(alloc: Global, row: Row<'p>) -> Result<Vec<Row<'p>>, AllocError>
 fn nothing_row<'p>(
     alloc: Global,
     effective: &'p EffectiveProfile<'p>,
-    setting: Setting<'_>,
+    setting: KnownSetting<'_>,
 ) -> Result<Row<'p>, AllocError>
     ensures { IfOk result (IsNothingRow effective.now (rule_of setting.entry)) }
 {
-    let state = nothing_state(alloc, effective, setting)?;
-    bare_row(alloc, copy_of(alloc, setting.keys)?, state)
-}
-
-fn nothing_state<'p>(
-    alloc: Global,
-    effective: &'p EffectiveProfile<'p>,
-    setting: Setting<'_>,
-) -> Result<KeyState<'p>, AllocError>
-    ensures { IfOk result (IsNothingState effective.now (rule_of setting.entry)) }
-{
     let found = last_at(alloc, effective, "default", setting.keys)?;
-    taken_away(alloc, effective, setting, found)
+    let state = taken_away(alloc, effective, setting, found)?;
+    bare_row(alloc, copy_of(alloc, setting.keys)?, state)
 }
 
 // What is told where this is what the last layer has for `default`.
 fn taken_away<'p>(
     alloc: Global,
     effective: &'p EffectiveProfile<'p>,
-    setting: Setting<'_>,
+    setting: KnownSetting<'_>,
     found: Option<LayerValue<'p>>,
 ) -> Result<KeyState<'p>, AllocError>
     ensures { IfOk result (IsTakenAway effective.now (rule_of setting.entry) found.entry) }
@@ -140,11 +122,26 @@ pub(crate) fn bare_row<'p>(
     })
 }
 
-// The rows of a value: of a table key by key.
-fn value_rows<'p>(alloc: Global, given: GivenSetting<'_, 'p>) -> Result<Vec<Row<'p>>, AllocError>
-    ensures { IfOk result (λ rows. AreValueRows (at_of given.entry) rows.items) }
+// The rows of what a profile gives a setting, judged or not: of a table key by key.
+fn value_rows<'p>(
+    alloc: Global,
+    effective: &'p EffectiveProfile<'p>,
+    setting: KnownSetting<'_>,
+    shows_hidden: bool,
+    profile: &'p str,
+    is_judged: bool,
+) -> Result<Vec<Row<'p>>, AllocError>
+    ensures { IfOk result (λ rows. AreValueRows
+        (at effective.now shows_hidden (rule_of setting.entry) profile.now is_judged) rows.items) }
 {
-    let found = last_at(alloc, given.effective, given.profile, given.setting.keys)?;
+    let found = last_at(alloc, effective, profile, setting.keys)?;
+    let given = GivenSetting {
+        effective,
+        profile,
+        setting,
+        is_judged,
+        shows_hidden,
+    };
     found_rows(alloc, given, found)
 }
 
@@ -157,35 +154,29 @@ fn found_rows<'p>(
     ensures { IfOk result (λ rows. AreRowsOf (at_of given.entry) found.entry rows.items) }
 {
     match found {
-        Some(found) if has_parts(given.setting, found.value) => {
-            member_rows(alloc, given, given.setting.members)
-        }
+        Some(found) if has_parts(given.setting, found.value) => member_rows(alloc, given),
         Some(found) => whole_rows(alloc, given, found),
         None => {
             let keys = copy_of(alloc, given.setting.keys)?;
             let row = bare_row(alloc, keys, KeyState::Unset)?;
-            let rows = alone(alloc, row)?;
-            Ok(rows)
+            alone(alloc, row)
         }
     }
 }
 
 // Whether a value is a table whose keys are told one by one.
-fn has_parts(setting: Setting<'_>, value: &Value) -> bool
+fn has_parts(setting: KnownSetting<'_>, value: &Value) -> bool
     ensures { result ≡ has_parts (rule_of setting.entry) (view value.now) }
 {
-    value.is_table() && !setting.members.is_empty()
+    value.is_table() && !setting.members().is_empty()
 }
 
 // The rows of the keys of a table.
-fn member_rows<'p>(
-    alloc: Global,
-    given: GivenSetting<'_, 'p>,
-    members: &'static [Field],
-) -> Result<Vec<Row<'p>>, AllocError>
+fn member_rows<'p>(alloc: Global, given: GivenSetting<'_, 'p>) -> Result<Vec<Row<'p>>, AllocError>
     ensures { IfOk result (λ rows. AllZip (IsMemberRow (at_of given.entry))
-        (map member_of members.now) rows.items) }
+        (rule_of given.entry.setting).members rows.items) }
 {
+    let members = given.setting.members();
     let mut rows = Vec::new(alloc);
     for member in members {
         rows.push(member_row(alloc, given, member)?)?;
@@ -318,23 +309,22 @@ fn whole_rows<'p>(
 {
     let keys = copy_of(alloc, given.setting.keys)?;
     let first = given_row(alloc, given, None, keys, found)?;
-    let mut rest = rest_of_table(alloc, given.setting, found.value)?;
-    let mut rows = alone(alloc, first)?;
-    rows.append(&mut rest)?;
+    let mut rows = rest_of_table(alloc, given.setting, found.value)?;
+    rows.insert(0, first)?;
     Ok(rows)
 }
 
 // What a value says of the other keys of the table for which it stands, if it does.
 fn rest_of_table<'p>(
     alloc: Global,
-    setting: Setting<'_>,
+    setting: KnownSetting<'_>,
     value: &Value,
 ) -> Result<Vec<Row<'p>>, AllocError>
     ensures { IfOk result (λ rows.
         AreImplied (stands_for_table (view value.now)) (rule_of setting.entry) rows.items) }
 {
     if stands_for_table(value) {
-        return implied_rows(alloc, setting, setting.members);
+        return implied_rows(alloc, setting);
     }
     Ok(Vec::new(alloc))
 }
@@ -347,14 +337,11 @@ fn stands_for_table(value: &Value) -> bool
 }
 
 // The rows of the other keys of a table for which a text or a number stands.
-fn implied_rows<'p>(
-    alloc: Global,
-    setting: Setting<'_>,
-    members: &'static [Field],
-) -> Result<Vec<Row<'p>>, AllocError>
+fn implied_rows<'p>(alloc: Global, setting: KnownSetting<'_>) -> Result<Vec<Row<'p>>, AllocError>
     ensures { IfOk result (λ rows. AllZip (IsImpliedRow (rule_of setting.entry).keys)
-        (filter is_implied (map member_of members.now)) rows.items) }
+        (filter is_implied (rule_of setting.entry).members) rows.items) }
 {
+    let members = setting.members();
     let mut rows = Vec::new(alloc);
     for member in members {
         if is_implied(member) {
@@ -374,7 +361,7 @@ fn is_implied(member: &Field) -> bool
 // The row of a key of a table for which a text or a number stands.
 fn implied_row<'p>(
     alloc: Global,
-    setting: Setting<'_>,
+    setting: KnownSetting<'_>,
     member: &'static Field,
 ) -> Result<Row<'p>, AllocError>
     ensures { IfOk result (IsImpliedRow (rule_of setting.entry).keys (member_of member.now)) }

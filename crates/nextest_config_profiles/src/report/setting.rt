@@ -11,13 +11,20 @@ use nextest_config_elements::keys::profile_fields;
 use nextest_config_lint::fields_in;
 use std::alloc::{AllocError, Global};
 
-/// A setting: its path below a profile, its row in the table of keys, and the fields of its own
-/// table, if it may have one.
+/// A setting: its path below a profile, and its row in the table of keys.
 #[derive(Clone, Copy)]
-pub(crate) struct Setting<'s> {
+pub(crate) struct KnownSetting<'s> {
     pub keys: &'s [&'static str],
     pub field: &'static Field,
-    pub members: &'static [Field],
+}
+
+impl KnownSetting<'_> {
+    /// The fields of its own table, if it may have one.
+    pub(crate) fn members(self) -> &'static [Field]
+        ensures { map member_of result.now ≡ (rule_of self.entry).members }
+    {
+        fields_below(&self.field.parts)
+    }
 }
 
 /// A setting that owns its path.
@@ -29,13 +36,12 @@ pub(crate) struct OwnedSetting {
 
 impl OwnedSetting {
     /// The setting, as it is lent.
-    pub(crate) fn lent(&self) -> Setting<'_>
+    pub(crate) fn lent(&self) -> KnownSetting<'_>
         ensures { rule_of result ≡ rule_owned self.now }
     {
-        Setting {
+        KnownSetting {
             keys: self.keys.as_slice(),
             field: self.field,
-            members: fields_below(&self.field.parts),
         }
     }
 }
@@ -48,7 +54,10 @@ pub(crate) fn all_settings(alloc: Global) -> Result<Vec<OwnedSetting>, AllocErro
     let mut settings = Vec::new(alloc);
     push_settings(alloc, &[], fields, &mut settings)?;
     for field in fields {
-        push_settings(alloc, &[field.key], table_fields(field), &mut settings)?;
+        let inner = table_fields(field);
+        if !inner.is_empty() {
+            push_settings(alloc, &[field.key], inner, &mut settings)?;
+        }
     }
     Ok(settings)
 }
@@ -86,7 +95,8 @@ pub(crate) fn is_setting(above: &[&str], absent: Absent) -> bool
 
 /// The fields of a plain table.
 pub(crate) fn table_fields(field: &Field) -> &'static [Field]
-    ensures { fields_view result.now ≡ table_fields (member_of field.now).shape (parts_in field.now) }
+    ensures { fields_view result.now
+        ≡ table_fields (member_of field.now).shape (parts_in field.now) }
 {
     match field.shape {
         Shape::Table => fields_in(&field.parts),

@@ -4,7 +4,7 @@ ghost use Rattle.std.specs.Prelude.{◌≡◌, ◌≤◌, ◌++◌, IfOk, IfSome
 ghost use Rattle.toml.specs.View.{view};
 ghost use Rattle.nextest_config_profiles.specs.Profile.{chain_in, layer_at, layers_in};
 ghost use Rattle.nextest_config_profiles.specs.Reach.{words_of};
-ghost use Rattle.nextest_config_profiles.specs.Report.Standing.{behind, hidden_below, hidden_in, hidden_of, reached_of, standing_in, standing_of, stands};
+ghost use Rattle.nextest_config_profiles.specs.Report.Standing.{behind, hidden_below, hidden_of, reached_of, standing_in, standing_of, stands, stands_there};
 
 use crate::EffectiveProfile;
 use nextest_config_values::read::value_at;
@@ -16,16 +16,14 @@ use toml::Value;
 pub(crate) struct Standing<'p> {
     pub profile: &'p str,
     pub layer: usize,
-    /// How many of the keys lead there.
-    pub depth: usize,
-    pub value: &'p Value,
+    pub reached: Reached<'p>,
 }
 
-// What keys lead to, and how many of them.
+/// What keys lead to, and how many of them.
 #[derive(Clone, Copy)]
-struct Reached<'p> {
-    depth: usize,
-    value: &'p Value,
+pub(crate) struct Reached<'p> {
+    pub depth: usize,
+    pub value: &'p Value,
 }
 
 /// What lies below a layer at keys of a profile, or on the way there, and what those profiles have
@@ -78,29 +76,27 @@ fn push_below<'p>(
         return Ok(());
     }
     let layer = layers - 1;
-    push_in(effective, profile, keys, layer, standings)?;
+    let reached = reach(effective, profile, keys, layer);
+    push_reached(profile, layer, reached, standings)?;
     push_below(effective, profile, keys, layer, standings)?;
     Ok(())
 }
 
-// Pushes what a layer has at keys of a profile, or on the way there.
-fn push_in<'p>(
-    effective: &'p EffectiveProfile<'_>,
+// Pushes what a layer has at keys of a profile, or on the way there, if it has something.
+fn push_reached<'p>(
     profile: &'p str,
-    keys: &[&str],
     layer: usize,
+    reached: Option<Reached<'p>>,
     standings: &mut Vec<Standing<'p>>,
 ) -> Result<(), AllocError>
-    ensures { OnOk result (map standing_of standings.new.items
-        ≡ map standing_of standings.old.items
-        ++ hidden_in (layers_in effective.now) profile.now (words_of keys.now) layer) }
+    ensures { OnOk result (map standing_of standings.new.items ≡ map standing_of standings.old.items
+        ++ stands_there profile.now layer (option_map reached_of reached.entry)) }
 {
-    if let Some(Reached { depth, value }) = reach(effective, profile, keys, layer) {
+    if let Some(reached) = reached {
         standings.push(Standing {
             profile,
             layer,
-            depth,
-            value,
+            reached,
         })?;
     }
     Ok(())

@@ -11,7 +11,7 @@ ghost use Rattle.nextest_config_profiles.specs.Report.Wanted.{dotted, field_at, 
 
 use crate::report::keys::with_key;
 use crate::report::others::other_keys;
-use crate::report::setting::{Setting, all_settings, fields_below};
+use crate::report::setting::{KnownSetting, all_settings, fields_below};
 use crate::texts::{copies, lent};
 use nextest_config_elements::field::Field;
 use nextest_config_elements::keys::profile_fields;
@@ -125,14 +125,14 @@ fn setting_paths(alloc: Global) -> Result<Vec<String>, AllocError>
 // Pushes the paths of a setting.
 fn push_paths(
     alloc: Global,
-    setting: Setting<'_>,
+    setting: KnownSetting<'_>,
     paths: &mut Vec<String>,
 ) -> Result<(), AllocError>
     ensures { OnOk result (map string_bytes paths.new.items
         ≡ map string_bytes paths.old.items ++ map dotted (paths_of (rule_of setting.entry))) }
 {
     paths.push(setting.keys.join(alloc, ".")?)?;
-    let members = setting.members;
+    let members = setting.members();
     for member in members {
         let keys = with_key(alloc, setting.keys, member.key)?;
         paths.push(keys.join(alloc, ".")?)?;

@@ -1,10 +1,10 @@
 //! Tables of runs, in blocks: a line `=== NAME`, the files, and runs over them.
 //!
-//! A file is a line `@ PATH` and its lines, `@ PATH | folder`, or `@ PATH | REASON` where it can't be
-//! read; `@ -` is standard input. A run is a line `$ WORDS = STATUS`, the lines that it writes, each
-//! after `> `, and what it complains of, each line after `! `. A line feed within a line is `¶`, a
-//! carriage return `←`. A file has a byte for each character, as in Latin-1. What is written may have
-//! `*` for what `toml` says of the file that is no document.
+//! A file is a line `@ PATH` and its lines, `@ PATH | folder`, or `@ PATH | REASON` where it can't
+//! be read; `@ -` is standard input. A run is a line `$ WORDS = STATUS`, the lines that it writes,
+//! each after `> `, and what it complains of, each line after `! `. A line feed within a line is
+//! `¶`, a carriage return `←`. A file has a byte for each character, as in Latin-1. What is written
+//! may have `*` for what `toml` says of the file that is no document.
 
 use crate::memory::{Held, MemoryFiles};
 use crate::tests::rows::{copied, cut, done, push, unknown};

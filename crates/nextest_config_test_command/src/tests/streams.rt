@@ -96,8 +96,8 @@ impl Write for Watched {
     }
 }
 
-/// Does the run, and again with each call of its streams odd in turn, and so with those of its first
-/// complaint where the answer can't be written, too.
+/// Does the run, and again with each call of its streams odd in turn, and so with those of its
+/// first complaint where the answer can't be written, too.
 pub(crate) fn check_run(rt: &impl Runner, files: &MemoryFiles, run: &Run<'_>) {
     compare_run(rt, files, run, (PLAIN, PLAIN));
     for odd in ODD {

@@ -1,12 +1,12 @@
-//! What the words of a run ask for: the words that the command takes, each flag with its value after a
-//! `=`.
+//! What the words of a run ask for: the words that the command takes, each flag with its value
+//! after a `=`.
 
 use crate::tests::blocks::characters;
 use crate::tests::rows::{done, unknown, word};
 use crate::tests::runner::Runner;
 use nextest_config::nextest_version::Edition;
 use nextest_config_command::{
-    Check, FindingCode, LintOptions, RepositoryFile, Request, Task, Words,
+    CheckTask, FindingCode, LintOptions, RepositoryFile, Request, Task, Words,
 };
 use nextest_config_values::read::Word;
 use nextest_config_values::tool_config::ToolConfigFile;
@@ -39,7 +39,7 @@ pub(crate) fn request(rt: &impl Runner, words: &str) -> Request {
 fn task(rt: &impl Runner, words: &str) -> Task {
     let (subcommand, _) = word(words);
     match subcommand {
-        "check" => Task::Check(Check {
+        "check" => Task::Check(CheckTask {
             current: version(rt, value(words, "--current").unwrap_or("")),
             override_version_check: has(words, "--override"),
             lint: lint_options(rt, words),
@@ -93,8 +93,8 @@ fn repository(rt: &impl Runner, words: &str) -> Vec<RepositoryFile> {
     }
 }
 
-// What stands behind the subcommand and isn't a flag. A flag that the command hasn't counts as a path,
-// where nothing is.
+// What stands behind the subcommand and isn't a flag. A flag that the command hasn't counts as a
+// path, where nothing is.
 fn paths<'w>(rt: &impl Runner, words: &'w str) -> Vec<&'w str> {
     let mut paths = Vec::new(rt.alloc());
     let mut words = words.split(' ');

@@ -24,9 +24,7 @@ past_space (c ∷ space) behind h =
 -- within a gap, a digit comes next after the white space
 gap_goes_on : (in_gap : Bool) (c : ℕ) (cs : List ℕ) → (in_gap ≡ true → space_then_digit (c ∷ cs) ≡ true)
     → (is_whitespace c && (in_gap || space_then_digit cs)) ≡ (is_whitespace c && space_then_digit cs)
-gap_goes_on false c cs next = refl
-gap_goes_on true c cs next =
-    ⊎_elim (λ white. rw white (sym (rw (no_digit c white, white) at (next refl)))) (λ other. rw other refl) (cases_Bool (is_whitespace c))
+gap_goes_on in_gap c cs next = search rules
 
 -- ---- the loop
 

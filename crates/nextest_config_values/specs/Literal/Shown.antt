@@ -5,8 +5,8 @@ use Rattle.std.specs.List.{AllByRecursion}
 use Rattle.std.specs.Str.{chars}
 use Rattle.nextest_config_values.specs.declared.literal.shown.LineFeeds.{LineFeeds}
 use Rattle.nextest_config_values.specs.declared.literal.shown.LineFeeds.TheVariants.{Escaped, Kept}
-use Rattle.toml_spans.specs.Characters.{carriage_return, line_feed, nul, tab}
-use Rattle.toml_spans.specs.QuotedText.{by_code}
+use Rattle.toml_spans.specs.Characters.{line_feed}
+use Rattle.toml_spans.specs.QuotedText.{visible_character}
 
 -- the character's code is one of those from the first to the last, which count too
 abbrev pub is_from_to : ℕ → ℕ → ℕ → Bool
@@ -20,18 +20,10 @@ abbrev pub is_unprintable : ℕ → Bool
 is_unprintable c = is_control c || c == 8203 || is_from_to 8206 8207 c || is_from_to 8232 8238 c
     || is_from_to 8294 8297 c
 
--- a character without a short escape: by its code, where it is never shown as it is
-abbrev pub shown_by_code : ℕ → List ℕ
-shown_by_code c = if is_unprintable c then by_code c else encode_utf8 c
-
--- a character, as it is shown in a line: by a short escape, by its code, or as it is
+-- a character, as it is shown in a line: by its letter, by its code where it is never shown as it
+-- is, or as it is
 abbrev pub shown_character : ℕ → List ℕ
-shown_character c =
-    if c == line_feed then codes "\\n"
-    else if c == carriage_return then codes "\\r"
-    else if c == tab then codes "\\t"
-    else if c == nul then codes "\\0"
-    else shown_by_code c
+shown_character c = visible_character (is_unprintable c) c
 
 -- a character of a text, where line feeds are escaped, too, or stay
 abbrev pub character_in : LineFeeds → ℕ → List ℕ

@@ -11,8 +11,7 @@ use std::alloc::{AllocError, Global};
 use std::path::Path;
 use toml::Value;
 
-/// Reads a relative path, which is kept as it is written: it doesn't begin with `/`, and none of
-/// its segments between slashes is `..`.
+/// Reads a relative path (`is_relative_path`), which is kept as it is written.
 pub fn deserialize_relative_path(
     alloc: Global,
     value: &Value,
@@ -42,7 +41,8 @@ fn read_relative_path(alloc: Global, value: &Value) -> Result<String, ValueFault
     }
 }
 
-fn is_relative_path(path: &str) -> bool
+/// Whether a path doesn't begin with `/`, and none of its segments between slashes is `..`.
+pub fn is_relative_path(path: &str) -> bool
     ensures { IsTrue result ↔ IsRelativePath path.now }
 {
     !path.starts_with('/') && path.split('/').all(|piece| piece != "..")

@@ -3,11 +3,11 @@
 ghost use Rattle.std.specs.Prelude.{◌≡◌, IfOk, Some, string_bytes};
 ghost use Rattle.std.specs.Fmt.{WritesOnOk};
 ghost use Rattle.std.specs.List.{list_all};
-ghost use Rattle.nextest_config_values.specs.Literal.Shown.{character_in, is_plain, is_printable, is_unprintable, shown_by_code, shown_character, shown_in, shown_lines, shown_text};
+ghost use Rattle.nextest_config_values.specs.Literal.Shown.{character_in, is_plain, is_printable, is_unprintable, shown_character, shown_in, shown_lines, shown_text};
 
 use std::alloc::{AllocError, Global};
 use std::fmt;
-use toml_spans::write_by_code;
+use toml_spans::write_visible;
 
 /// A text in a line: what ends a line, other control characters, and what no one sees or what turns
 /// the direction of texts around, print by their escapes.
@@ -102,24 +102,7 @@ fn write_character<W: fmt::Write>(
 pub fn write_shown<W: fmt::Write>(f: &mut fmt::Formatter<W>, c: char) -> fmt::Result
     ensures { WritesOnOk W.write_str_gives f.old result (shown_character c) f.new }
 {
-    match c {
-        '\n' => f.write_str("\\n"),
-        '\r' => f.write_str("\\r"),
-        '\t' => f.write_str("\\t"),
-        '\0' => f.write_str("\\0"),
-        c => write_unnamed(f, c),
-    }
-}
-
-// A character that has no short escape.
-fn write_unnamed<W: fmt::Write>(f: &mut fmt::Formatter<W>, c: char) -> fmt::Result
-    ensures { WritesOnOk W.write_str_gives f.old result (shown_by_code c) f.new }
-{
-    if is_unprintable(c) {
-        write_by_code(f, c)
-    } else {
-        f.write_char(c)
-    }
+    write_visible(f, is_unprintable(c), c)
 }
 
 /// Whether a character is never shown as it is.

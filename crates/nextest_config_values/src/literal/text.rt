@@ -2,10 +2,11 @@
 
 ghost use Rattle.std.specs.Prelude.{◌≡◌, ◌<◌, true};
 ghost use Rattle.std.specs.Fmt.{WritesOnOk, digit_glyph};
-ghost use Rattle.nextest_config_values.specs.Literal.Text.{basic_character, basic_text, code_text, unnamed_character};
+ghost use Rattle.nextest_config_values.specs.Literal.Text.{basic_character, basic_text, code_text, unquoted_character};
 
 use crate::literal::shown::is_unprintable;
 use std::fmt;
+use toml_spans::letter_escape;
 
 // Writes a text as a basic string.
 pub(crate) fn write_basic<W: fmt::Write>(f: &mut fmt::Formatter<W>, text: &str) -> fmt::Result
@@ -25,21 +26,18 @@ fn write_character<W: fmt::Write>(f: &mut fmt::Formatter<W>, c: char) -> fmt::Re
     match c {
         '"' => f.write_str("\\\""),
         '\\' => f.write_str("\\\\"),
-        '\n' => f.write_str("\\n"),
-        '\r' => f.write_str("\\r"),
-        '\t' => f.write_str("\\t"),
-        c => write_unnamed(f, c),
+        c => write_unquoted(f, c),
     }
 }
 
-// A character that has no short escape.
-fn write_unnamed<W: fmt::Write>(f: &mut fmt::Formatter<W>, c: char) -> fmt::Result
-    ensures { WritesOnOk W.write_str_gives f.old result (unnamed_character c) f.new }
+// A character that is neither a quote nor a backslash.
+fn write_unquoted<W: fmt::Write>(f: &mut fmt::Formatter<W>, c: char) -> fmt::Result
+    ensures { WritesOnOk W.write_str_gives f.old result (unquoted_character c) f.new }
 {
-    if is_unprintable(c) {
-        write_code(f, c)
-    } else {
-        f.write_char(c)
+    match letter_escape(c) {
+        Some(escape) => f.write_str(escape),
+        None if is_unprintable(c) => write_code(f, c),
+        None => f.write_char(c),
     }
 }
 

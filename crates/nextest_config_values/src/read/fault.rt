@@ -22,8 +22,8 @@ pub struct ReadFault {
     pub kind: FaultKind,
 }
 
-/// The reason why a TOML value was refused. Words and keys that are expected are these; what else is
-/// expected is written as it is printed.
+/// The reason why a TOML value was refused. Words and keys that are expected are these; what else
+/// is expected is written as it is printed.
 #[derive(Debug, PartialEq, Eq, Drop)]
 pub enum FaultKind {
     /// The value is of a kind that the setting doesn't take.

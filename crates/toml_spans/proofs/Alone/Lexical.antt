@@ -1,11 +1,12 @@
 -- Runs and blanks of a text are the same before each front of what they leave.
-use Rattle.std.proofs.Common.{◌≡◌, ℕ, ◌+◌, ◌<◌, Bool, true, false, ◌==◌, List, [], ◌∷◌, ◌++◌, length, take, drop, Option, is_some, unwrap_or, refl, sym, ap, ◌∙◌, inl, inr, arith, take_at, drop_at, length-append}
+use Rattle.std.proofs.Common.{◌≡◌, ℕ, ◌+◌, ◌<◌, Bool, true, false, ◌==◌, ◌&&◌, ◌||◌, List, [], ◌∷◌, ◌++◌, length, take, drop, Option, is_some, unwrap_or, refl, sym, ap, ◌∙◌, inl, inr, arith, take_at, drop_at, length-append, rules}
 use Rattle.std.proofs.lemmas.Bool.{cases_Bool, false≢true}
 use Rattle.std.proofs.lemmas.Bool.Decides.{nat_tests}
 use Rattle.std.proofs.lemmas.List.{length-take-le, take-append-drop}
 use Rattle.std.proofs.lemmas.List.Sums.{prefix_len-le-length}
 use Rattle.std.specs.List.{prefix_len}
-use Rattle.toml_parser.specs.Lexical.{first, is_ws, line_feed, skip_from, skip_turn, skip_ws, split_while}
+use Rattle.toml_parser.proofs.LexicalLemmas.{skip_ws_none}
+use Rattle.toml_parser.specs.Lexical.{first, is_ws, line_feed, skip_blank, skip_from, skip_turn, skip_ws, split_while}
 use Rattle.toml_spans.proofs.Alone.Reads.{Skips}
 
 -- the first byte is no such one, or the text is over before it
@@ -54,6 +55,25 @@ ws_alone s =
     record { front = split.front; whole = split.whole; on = λ r b cut. ap (λ parts. parts.1) (split.on r b cut).0 }
 
 -- ---- blanks and comments
+
+-- white space within a line
+pub ws_step : (c : ℕ) (t : List ℕ) → is_ws c ≡ true → skip_ws (c ∷ t) ≡ skip_ws t
+unfolding skip_ws
+ws_step c t ws = search rules
+
+-- and among lines
+pub ws_skipped : (comments : Bool) (c : ℕ) (t : List ℕ) → is_ws c ≡ true → skip_from comments false (c ∷ t) ≡ skip_from comments false t
+unfolding skip_from
+ws_skipped comments c t ws = elim (cases_Bool (c == 10 || (c == 13 && first t == 10))) [ inl feed ↦ rw feed refl | inr other ↦ rw (other, ws) refl ]
+
+-- so nothing but blanks stands before what white space leaves
+pub blank_ws : (text : List ℕ) → skip_blank (skip_ws text) ≡ skip_blank text
+unfolding skip_ws
+blank_ws [] = refl
+blank_ws (c ∷ text) = elim (cases_Bool (is_ws c)) [
+  | inl space ↦ ap skip_blank (ws_step c text space) ∙ blank_ws text ∙ sym (ws_skipped true c text space)
+  | inr other ↦ ap skip_blank (skip_ws_none (c ∷ text) other)
+]
 
 -- what is left after blanks begins with no line feed
 skip_stops : (comments inside : Bool) (s : List ℕ) → (first (skip_from comments inside s) == line_feed) ≡ false

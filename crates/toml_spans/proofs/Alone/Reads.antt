@@ -1,6 +1,5 @@
 -- What is read of a text is a front of it, which is read so before each front of what it leaves.
-use Rattle.std.proofs.Common.{◌≡◌, ℕ, ◌<◌, ◌≤◌, Bool, true, false, cond, List, ◌∷◌, ◌++◌, length, Some, None, option_and_then, refl, sym, ap, ◌∙◌, arith, append_assoc, length-append}
-use Rattle.std.proofs.lemmas.Option.{none-some, same_Some}
+use Rattle.std.proofs.Common.{◌≡◌, ℕ, ◌<◌, ◌≤◌, Bool, true, false, cond, List, ◌∷◌, ◌++◌, length, Some, None, option_and_then, refl, sym, ap, ◌∙◌, arith, append_assoc, length-append, rules}
 use Rattle.toml_parser.specs.Lexical.{Read}
 use Rattle.toml.specs.Parse.{read_map}
 
@@ -58,12 +57,7 @@ module _ {A : Type 0} {P : List ℕ → A → List ℕ → Type 0} {s : List ℕ
 
   -- a value that was read leaves the end of the text
   pub front_of : (value : A) (rest : List ℕ) → Alone P s x → x ≡ Some (value, rest) → (front : List ℕ) × (s ≡ front ++ rest) × ((r b : List ℕ) → rest ≡ r ++ b → P (front ++ r) value r)
-  front_of value rest (refuses bad) is = absurd (none-some (value, rest) (sym bad ∙ is))
-  front_of value rest (reads v front rest' whole is' on) is =
-      let same : (v, rest') ≡ (value, rest) = same_Some (v, rest') (value, rest) (sym is' ∙ is) in
-      let value_is : v ≡ value = ap (λ p. p.0) same in
-      let rest_is : rest' ≡ rest = ap (λ p. p.1) same in
-      rw (← value_is, ← rest_is) (front, whole, on)
+  front_of h0 rest h2 is = search rules
 
 -- ---- one of two
 

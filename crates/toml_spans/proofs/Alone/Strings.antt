@@ -1,5 +1,5 @@
 -- Strings and keys of a text are the same before each front of what they leave.
-use Rattle.std.proofs.Common.{◌≡◌, ℕ, zero, suc, ◌+◌, ◌<◌, ◌≤◌, Bool, true, false, cond, ◌&&◌, ◌||◌, ◌==◌, nat_le, nat_lt, List, [], ◌∷◌, ◌++◌, length, take, drop, Option, option_and_then, option_map, Some, None, is_some, slice_index, refl, sym, ap, subst, ◌∙◌, inl, inr, arith, le-leb, leb-true, eqb-true, take_at, drop_at, length-append}
+use Rattle.std.proofs.Common.{◌≡◌, ℕ, zero, suc, ◌+◌, ◌<◌, ◌≤◌, Bool, true, false, cond, ◌&&◌, ◌||◌, ◌==◌, nat_le, nat_lt, List, [], ◌∷◌, ◌++◌, length, take, drop, Option, option_and_then, option_map, Some, None, is_some, slice_index, refl, sym, ap, subst, ◌∙◌, inl, inr, arith, le-leb, leb-true, eqb-true, take_at, drop_at, length-append, rules}
 use Rattle.std.proofs.lemmas.Bool.{and_parts, and_right, cases_Bool, false≢true}
 use Rattle.std.proofs.lemmas.Bool.Decides.{nat_tests}
 use Rattle.std.proofs.lemmas.List.{length-take-le, take-append-drop}
@@ -9,9 +9,9 @@ use Rattle.std.specs.Str.Parse.{digits_value}
 use Rattle.std.specs.Prelude.{encode_utf8}
 use Rattle.toml_parser.proofs.LexicalLemmas.{skip_ws_none}
 use Rattle.toml_parser.specs.Lexical.{first, is_bare, is_ws, Read, skip_from, skip_ws, split_while, starts_newline}
-use Rattle.toml_parser.specs.Strings.{after_piece, at_delims, body, escape, escape_char, hex_escape, hex_len, is_plain, is_scalar, key, Key, key_after, one_line, quoted, simple_escape, simple_key, special, starts_string, trim_newline}
+use Rattle.toml_parser.specs.Strings.{after_piece, at_delims, body, escape, escape_char, hex_escape, hex_len, is_plain, is_scalar, Key, key_after, one_line, quoted, simple_escape, simple_key, special, starts_string, trim_newline}
 use Rattle.toml.specs.Parse.{read_map}
-use Rattle.toml_spans.proofs.Alone.Lexical.{first_cut, first_same, run_on, skip_alone, split_alone, ws_alone}
+use Rattle.toml_spans.proofs.Alone.Lexical.{first_cut, first_same, run_on, skip_alone, split_alone, ws_alone, ws_skipped, ws_step}
 use Rattle.toml_spans.proofs.Alone.Reads.{Alone, alone_if, alone_map, alone_skip, alone_then, as_read, behind, reads, refuses, skipped_alone, Skips, skips_after, Tells}
 
 -- ---- escapes
@@ -35,10 +35,7 @@ hex_alone n s =
 
 -- a byte that passes a test is none that doesn't
 differs : (p : ℕ → Bool) (c k : ℕ) → p c ≡ true → p k ≡ false → (c == k) ≡ false
-differs p c k passes fails = elim (cases_Bool (c == k)) [
-  | inl same ↦ absurd (false≢true (sym fails ∙ ap p (sym (eqb-true c k same)) ∙ passes))
-  | inr other ↦ other
-]
+differs p c k passes fails = search rules
 
 -- the letter of an escape
 abbrev is_letter : ℕ → Bool
@@ -66,18 +63,6 @@ escape_char_alone (c ∷ s) = elim (cases_Bool (nat_lt 0 (hex_len c))) [
     one_escape : nat_lt 0 (hex_len c) ≡ false → (found : Option ℕ) → simple_escape c ≡ found → Alone TellsEscape (c ∷ s) (option_map (λ v. (v, s)) found)
     one_escape other None is = refuses refl
     one_escape other (Some v) is = reads v (c ∷ []) s refl refl (λ r b cut. record { told = rw (other, is) refl; in_line = letter_in_line c r (rw (other, is) refl) })
-
--- white space within a line
-pub ws_step : (c : ℕ) (t : List ℕ) → is_ws c ≡ true → skip_ws (c ∷ t) ≡ skip_ws t
-unfolding skip_ws
-ws_step c t ws =
-    let more : 1 + prefix_len is_ws t ≡ suc (prefix_len is_ws t) = omega arith in
-    rw (ws, more) refl
-
--- white space among lines
-lines_step : (c : ℕ) (t : List ℕ) → is_ws c ≡ true → skip_from false false (c ∷ t) ≡ skip_from false false t
-unfolding skip_from
-lines_step c t ws = elim (cases_Bool (c == 10 || (c == 13 && first t == 10))) [ inl feed ↦ rw feed refl | inr other ↦ rw (other, ws) refl ]
 
 -- a line feed, or a carriage return before one, among lines
 lines_feed : (c : ℕ) (t : List ℕ) → (c == 10 || (c == 13 && first t == 10)) ≡ true → skip_from false false (c ∷ t) ≡ skip_from false false t
@@ -109,7 +94,7 @@ cut_alone : (s : List ℕ) → starts_newline (skip_ws s) ≡ true → Skips Tel
 unfolding skip_ws
 cut_alone [] ends = absurd (false≢true ends)
 cut_alone (c ∷ s) ends = elim (cases_Bool (is_ws c)) [
-  | inl ws ↦ rw (lines_step c s ws) (skips_after c (cut_alone s (rw (ws_step c s ws) at ends)) (λ t r is. record { skipped = lines_step c t ws ∙ is.skipped; ends = rw (ws_step c t ws) is.ends }))
+  | inl ws ↦ rw (ws_skipped false c s ws) (skips_after c (cut_alone s (rw (ws_step c s ws) at ends)) (λ t r is. record { skipped = ws_skipped false c t ws ∙ is.skipped; ends = rw (ws_step c t ws) is.ends }))
   | inr other ↦ feed_alone c s other (rw (skip_ws_none (c ∷ s) other) at ends)
 ]
 
@@ -152,11 +137,6 @@ module _ (delim : ℕ) (multi : Bool) where
   one_piece : (m : ℕ) (t : List ℕ) (piece : Option (List ℕ)) (r : List ℕ) → is_plain delim multi (first t) ≡ false → special delim multi t ≡ Some (piece, r) → body delim multi (suc m) t ≡ after_piece (body delim multi m) piece r
   unfolding body
   one_piece m t piece r other is = rw (other, is) refl
-
-  -- a byte that stands for itself, and the next ones
-  one_plain : (m c : ℕ) (t : List ℕ) → is_plain delim multi c ≡ true → body delim multi (suc m) (c ∷ t) ≡ read_map (λ (rest : List ℕ). c ∷ rest) (body delim multi m t)
-  unfolding body
-  one_plain m c t plain = rw plain refl
 
   -- a byte that stands for so many
   told_behind : (c : ℕ) (bytes t v r : List ℕ) → ((m : ℕ) → body delim multi (suc m) (c ∷ t) ≡ read_map (λ (rest : List ℕ). bytes ++ rest) (body delim multi m t))
@@ -204,18 +184,13 @@ module _ (delim : ℕ) (multi : Bool) where
     -- no string ends at the end of the text
     body_nil : (n : ℕ) → body delim multi n [] ≡ None
     unfolding body special
-    body_nil zero = refl
-    body_nil (suc n) = rw some (elim (cases_Bool multi) [ inl h ↦ rw h refl | inr h ↦ rw h refl ])
+    body_nil n = search rules
 
-    -- a delimiter of a string of one line
-    ends_one : (c : ℕ) (t : List ℕ) → (c == delim) ≡ true → multi ≡ false → special delim multi (c ∷ t) ≡ Some (None, t)
+    -- what a byte stands for that isn't plain
+    special_is : (c : ℕ) (t : List ℕ) → special delim multi (c ∷ t) ≡ cond (c == delim) (cond multi (at_delims delim (c ∷ t)) (Some (None, t)))
+        (cond (c == 92) (read_map Some (escape multi t)) (cond (multi && starts_newline (c ∷ t)) (Some (Some (c ∷ []), t)) None))
     unfolding special
-    ends_one c t is one = rw (is, one) refl
-
-    -- one of a string of several lines
-    several_delims : (c : ℕ) (t : List ℕ) → (c == delim) ≡ true → multi ≡ true → special delim multi (c ∷ t) ≡ at_delims delim (c ∷ t)
-    unfolding special
-    several_delims c t is several = rw (is, several) refl
+    special_is c t = refl
 
     -- three of them, and another number
     at_three : (t : List ℕ) → delims t ≡ 3 → at_delims delim t ≡ Some (None, drop 3 t)
@@ -234,47 +209,33 @@ module _ (delim : ℕ) (multi : Bool) where
         → Alone (TellsBody (c ∷ s)) (c ∷ s) (option_and_then (λ p. after_piece (body delim multi n) p.0 p.1) (special delim multi (c ∷ s)))
     delim_alone n c s more other is = elim (cases_Bool multi) [
       | inr one ↦
-          let ends : (t : List ℕ) → special delim multi (c ∷ t) ≡ Some (None, t) = λ t. ends_one c t is one in
+          let ends : (t : List ℕ) → special delim multi (c ∷ t) ≡ Some (None, t) = λ t. special_is c t ∙ rw (is, one) refl in
           rw (ends s) (reads [] (c ∷ []) s refl refl (λ r b cut. record { told = told_end (c ∷ r) r (ends r) (omega arith) other; shorter = omega arith; run = λ several. absurd (false≢true (sym one ∙ several)) }))
       | inl several ↦
           let count = delims (c ∷ s) in
+          let several_is : (t : List ℕ) → special delim multi (c ∷ t) ≡ at_delims delim (c ∷ t) = λ t. special_is c t ∙ rw (is, several) refl in
           elim (cases_Bool (count == 3)) [
             | inl three ↦
                 let all : count ≡ 3 = eqb-true count 3 three in
-                rw (several_delims c s is several, at_three (c ∷ s) all) (reads [] (take 3 (c ∷ s)) (drop 3 (c ∷ s)) (sym (take-append-drop 3 (c ∷ s))) refl (λ r b cut.
+                rw (several_is s, at_three (c ∷ s) all) (reads [] (take 3 (c ∷ s)) (drop 3 (c ∷ s)) (sym (take-append-drop 3 (c ∷ s))) refl (λ r b cut.
                 let (size, run) = run_on (λ x. x == delim) (c ∷ s) 3 r b all cut in
                 let left : drop 3 (take 3 (c ∷ s) ++ r) ≡ r = drop_at (take 3 (c ∷ s)) r 3 size in
                 let longer : length (take 3 (c ∷ s) ++ r) ≡ 3 + length r = omega (arith, size, length-append (take 3 (c ∷ s)) r) in
                 record {
-                  told = told_end (take 3 (c ∷ s) ++ r) r (several_delims c (take 2 s ++ r) is several ∙ at_three (take 3 (c ∷ s) ++ r) run ∙ ap (λ (u : List ℕ). Some (None, u)) left) (omega (arith, longer)) other;
+                  told = told_end (take 3 (c ∷ s) ++ r) r (several_is (take 2 s ++ r) ∙ at_three (take 3 (c ∷ s) ++ r) run ∙ ap (λ (u : List ℕ). Some (None, u)) left) (omega (arith, longer)) other;
                   shorter = omega (arith, longer);
                   run = λ _. run ∙ sym all;
                 }))
             | inr more_or_less ↦ elim (cases_Bool (nat_lt count 6)) [
-              | inr many ↦ rw (several_delims c s is several, more_or_less, many) (refuses refl)
+              | inr many ↦ rw (several_is s, more_or_less, many) (refuses refl)
               | inl few ↦
                   let here : Alone (TellsBody (c ∷ s)) (c ∷ s) (read_map (λ (rest : List ℕ). (delim ∷ []) ++ rest) (body delim multi n s)) = byte_after c (delim ∷ []) s (body delim multi n s) (more s) (λ t b v r whole on m.
                   let same : delims (c ∷ t) ≡ count = ap (λ n. cond (c == delim) (1 + n) 0) (on.run several) in
-                  one_piece m (c ∷ t) (Some (delim ∷ [])) t other (several_delims c t is several ∙ at_one (c ∷ t) count same more_or_less few)) in
-                  rw (several_delims c s is several, at_one (c ∷ s) count refl more_or_less few) here
+                  one_piece m (c ∷ t) (Some (delim ∷ [])) t other (several_is t ∙ at_one (c ∷ t) count same more_or_less few)) in
+                  rw (several_is s, at_one (c ∷ s) count refl more_or_less few) here
             ]
           ]
     ]
-
-    -- a backslash
-    special_escape : (c : ℕ) (t : List ℕ) → (c == delim) ≡ false → (c == 92) ≡ true → special delim multi (c ∷ t) ≡ read_map Some (escape multi t)
-    unfolding special
-    special_escape c t other is = rw (other, is) refl
-
-    -- the end of a line
-    special_newline : (c : ℕ) (t : List ℕ) → (c == delim) ≡ false → (c == 92) ≡ false → (multi && starts_newline (c ∷ t)) ≡ true → special delim multi (c ∷ t) ≡ Some (Some (c ∷ []), t)
-    unfolding special
-    special_newline c t other plain is = rw (other, plain, is) refl
-
-    -- a byte that is nothing of a string
-    special_none : (c : ℕ) (t : List ℕ) → (c == delim) ≡ false → (c == 92) ≡ false → (multi && starts_newline (c ∷ t)) ≡ false → special delim multi (c ∷ t) ≡ None
-    unfolding special
-    special_none c t other plain is = rw (other, plain, is) refl
 
     -- a byte that doesn't stand for itself, and what comes after it
     special_alone : (n c : ℕ) (s : List ℕ) → ((u : List ℕ) → Alone (TellsBody u) u (body delim multi n u)) → is_plain delim multi c ≡ false
@@ -283,17 +244,18 @@ module _ (delim : ℕ) (multi : Bool) where
       | inl is ↦ delim_alone n c s more no_plain is
       | inr other ↦ elim (cases_Bool (c == 92)) [
         | inl escapes ↦
-            let mapped : Alone (λ t piece r. special delim multi (c ∷ t) ≡ Some (piece, r)) s (read_map Some (escape multi s)) = alone_map Some (escape_alone multi s) (λ t v r is. special_escape c t other escapes ∙ ap (read_map Some) is) in
+            let escapes_is : (t : List ℕ) → special delim multi (c ∷ t) ≡ read_map Some (escape multi t) = λ t. special_is c t ∙ rw (other, escapes) refl in
+            let mapped : Alone (λ t piece r. special delim multi (c ∷ t) ≡ Some (piece, r)) s (read_map Some (escape multi s)) = alone_map Some (escape_alone multi s) (λ t v r is. escapes_is t ∙ ap (read_map Some) is) in
             let here : Alone TellsPiece (c ∷ s) (read_map Some (escape multi s)) = behind c mapped (λ t piece r up is. record { no_plain = no_plain; told = is; shorter = omega (arith, up); run = rw other refl }) in
-            rw (special_escape c s other escapes) (piece_then n c s (read_map Some (escape multi s)) other more here)
+            rw (escapes_is s) (piece_then n c s (read_map Some (escape multi s)) other more here)
         | inr plain ↦ elim (cases_Bool (multi && starts_newline (c ∷ s))) [
           | inl ends ↦
               let here : Alone (TellsBody (c ∷ s)) (c ∷ s) (read_map (λ (rest : List ℕ). (c ∷ []) ++ rest) (body delim multi n s)) = byte_after c (c ∷ []) s (body delim multi n s) (more s) (λ t b v r whole on m.
               let same : first t ≡ first s = sym (ap first whole ∙ first_same t b (omega (arith, on.shorter))) in
               let ends_there : (multi && starts_newline (c ∷ t)) ≡ true = rw same ends in
-              one_piece m (c ∷ t) (Some (c ∷ [])) t no_plain (special_newline c t other plain ends_there)) in
-              rw (special_newline c s other plain ends) here
-          | inr none ↦ rw (special_none c s other plain none) (refuses refl)
+              one_piece m (c ∷ t) (Some (c ∷ [])) t no_plain (special_is c t ∙ rw (other, plain, ends_there) refl)) in
+              rw (special_is c s, other, plain, ends) here
+          | inr none ↦ rw (special_is c s, other, plain, none) (refuses refl)
         ]
       ]
     ]
@@ -304,20 +266,12 @@ module _ (delim : ℕ) (multi : Bool) where
     body_alone zero s = refuses refl
     body_alone (suc n) [] = refuses (body_nil (suc n))
     body_alone (suc n) (c ∷ s) = alone_if (is_plain delim multi c)
-        (λ plain. byte_after c (c ∷ []) s (body delim multi n s) (body_alone n s) (λ t b v r whole on m. one_plain m c t plain))
+        (λ plain. byte_after c (c ∷ []) s (body delim multi n s) (body_alone n s) (λ t b v r whole on m. rw plain refl))
         (λ other. special_alone n c s (λ u. body_alone n u) other)
 
     -- no newline that is left out stands before a front of a text without one
     trim_cut : (c : ℕ) (s t b : List ℕ) → c ∷ s ≡ t ++ b → 0 < length t → (c == 10) ≡ false → (c == 13 && first s == 10) ≡ false → trim_newline t ≡ t
-    trim_cut c s [] b whole some feed return = absurd (omega (arith, some))
-    trim_cut c s (d ∷ []) b whole some feed return =
-        let same : c ≡ d = cc whole in
-        rw (← same, feed, and_right (c == 13) false refl) refl
-    trim_cut c s (d ∷ e ∷ t) b whole some feed return =
-        let same : c ≡ d = cc whole in
-        let more : s ≡ e ∷ (t ++ b) = cc whole in
-        let return_there : (c == 13 && e == 10) ≡ false = rw more at return in
-        rw (← same, feed, return_there) refl
+    trim_cut c s t b whole some feed return = search rules
 
     -- what is told after a newline that is left out
     record TellsTrimmed (t v r : List ℕ) : Type 0 where
@@ -445,7 +399,3 @@ key_after_alone zero path s = refuses refl
 key_after_alone (suc n) path s = alone_then _ (simple_key_alone s)
     (λ part rest. alone_skip {S = λ t k r. (after_part n path part (skip_ws t) ≡ Some (k, r)) × (length r ≤ length t)} (after_part n path part) (ws_alone rest) (λ u. after_part_alone n path part u (λ path' v. key_after_alone n path' v)) (λ t t' k r up is on. (ap (after_part n path part) is ∙ on.told, omega (arith, up, on.shorter))))
     (λ t part t' k r up is on. record { told = rw is.told on.0; shorter = omega (arith, is.shorter, on.1) })
-
--- a key
-pub key_alone : (s : List ℕ) → Alone (Tells key) s (key s)
-key_alone s = as_read (key_after_alone 80 [] s) (λ t b v r whole up on. record { told = on.told; shorter = on.shorter })

@@ -1,5 +1,5 @@
 -- Values of a text are the same before each front of what they leave.
-use Rattle.std.proofs.Common.{◌≡◌, ℕ, zero, suc, ◌+◌, ◌<◌, ◌≤◌, Bool, true, false, cond, ◌&&◌, ◌||◌, ◌==◌, List, [], ◌∷◌, ◌++◌, length, take, drop, Option, option_and_then, option_map, Some, None, refl, sym, ap, subst, ◌∙◌, inl, inr, arith, eqb-true, take_at, drop_at, length-append, length-drop}
+use Rattle.std.proofs.Common.{◌≡◌, ℕ, zero, suc, ◌+◌, ◌<◌, ◌≤◌, Bool, true, false, cond, ◌&&◌, ◌||◌, ◌==◌, List, [], ◌∷◌, ◌++◌, length, take, drop, Option, option_and_then, option_map, Some, None, refl, sym, ap, ◌∙◌, inl, inr, arith, eqb-true, take_at, drop_at, length-append, length-drop, rules}
 use Rattle.std.proofs.lemmas.Bool.{and_parts, and_right, cases_Bool, false≢true, or_parts}
 use Rattle.std.proofs.lemmas.Bool.Decides.{nat_tests}
 use Rattle.std.proofs.lemmas.List.{drop-append-le, get_or_append_left, length-take-le, take-append-drop}
@@ -10,14 +10,14 @@ use Rattle.std.specs.Prelude.{slice_index}
 use Rattle.toml_parser.proofs.LexicalLemmas.{within_from_byte}
 use Rattle.toml_parser.specs.Lexical.{first, is_word, Read, skip_blank, skip_ws}
 use Rattle.toml_parser.specs.Numbers.{unquoted, word_len, word_value}
-use Rattle.toml_parser.specs.Strings.{Key, key_after, quoted, simple_key}
+use Rattle.toml_parser.specs.Strings.{key_after, quoted, simple_key}
 use Rattle.toml_parser.specs.declared.scalar.Scalar.{Scalar}
-use Rattle.toml.specs.Data.{array, Data, Items, Members, no_items, push_item, string, table}
+use Rattle.toml.specs.Data.{array, Data, no_items, push_item, string, table}
 use Rattle.toml.specs.Parse.{after_byte, after_element, atom, items, key_equals, keyval, members, read_map, scalar_data, val}
-use Rattle.toml.specs.Tables.{close, no_nodes, Nodes, put}
+use Rattle.toml.specs.Tables.{close, no_nodes, put}
 use Rattle.toml_spans.proofs.Alone.Lexical.{first_same, run_cut, skip_alone, ws_alone}
 use Rattle.toml_spans.proofs.Alone.Reads.{Alone, alone_map, alone_skip, alone_then, as_read, behind, reads, refuses, skipped_alone, Skips, Tells}
-use Rattle.toml_spans.proofs.Alone.Strings.{key_alone, quoted_alone}
+use Rattle.toml_spans.proofs.Alone.Strings.{key_after_alone, quoted_alone}
 
 -- ---- words
 
@@ -29,15 +29,11 @@ run_within p (c ∷ w) u v within = elim (cases_Bool (p c)) [
   | inr stops ↦ rw stops refl
 ]
 
--- a digit begins a word
-digit_in_word : (c : ℕ) → is_ascii_digit c ≡ true → is_word c ≡ true
-digit_in_word c digit = grind (arith, nat_tests)
-
--- so a word is not empty where a digit stands
+-- a word is not empty where a digit stands
 word_at : (y : List ℕ) (k : ℕ) → is_ascii_digit (slice_index y k) ≡ true → 0 < prefix_len is_word (drop k y)
 word_at [] zero digit = absurd (false≢true digit)
 word_at [] (suc k) digit = absurd (false≢true digit)
-word_at (c ∷ y) zero digit = rw (digit_in_word c digit) (omega arith)
+word_at (c ∷ y) zero digit = let word : is_word c ≡ true = grind (arith, nat_tests) in rw word (omega arith)
 word_at (c ∷ y) (suc k) digit = word_at y k digit
 
 -- a word, which may go on after a space
@@ -98,11 +94,6 @@ word_within s =
           omega (arith, word_joined s n refl both, some, prefix_len-le-length is_word (drop (n + 1) s), length-drop (n + 1) s)
     ]
 
--- no number that isn't 0 is less than 1
-positive : (n : ℕ) → (n == 0) ≡ false → 0 < n
-positive zero some = absurd (false≢true (sym some))
-positive (suc n) some = omega arith
-
 -- what a word tells
 unquoted_is : (t : List ℕ) (n : ℕ) (v : Scalar) → word_len t ≡ n → (n == 0) ≡ false → word_value (take n t) ≡ Some v → unquoted t ≡ Some (v, drop n t)
 unfolding unquoted
@@ -119,11 +110,12 @@ unquoted_alone s = elim (cases_Bool (word_len s == 0)) [ inl none ↦ rw none (r
         let n = word_len s in
         let size : length (take n s) ≡ n = length-take-le n s (word_within s) in
         let whole : s ≡ take n s ++ drop n s = sym (take-append-drop n s) in
+        let more : 0 < n = grind (arith, nat_tests) in
         reads v (take n s) (drop n s) whole (unquoted_is s n v refl some is) (λ r b cut.
         let same_len : word_len (take n s ++ r) ≡ n = word_cut (take n s) r b (sym (ap word_len (whole ∙ ap (λ (u : List ℕ). take n s ++ u) cut)) ∙ sym size) ∙ size in
         record {
           told = unquoted_is (take n s ++ r) n v same_len some (ap word_value (take_at (take n s) r n size) ∙ is) ∙ ap (λ (u : List ℕ). Some (v, u)) (drop_at (take n s) r n size);
-          shorter = omega (arith, size, length-append (take n s) r, positive n some);
+          shorter = omega (arith, size, length-append (take n s) r, more);
         })
 
 -- ---- what begins a value
@@ -138,24 +130,9 @@ unfolding atom unquoted word_len
 atom_nil = refl
 
 -- nor is one that begins with a bracket or a byte order mark
-at_square : (s : List ℕ) → atom (91 ∷ s) ≡ None
+pub atom_none : (c : ℕ) (s : List ℕ) → ((c == 91 || c == 123) || c == 239) ≡ true → atom (c ∷ s) ≡ None
 unfolding atom unquoted word_len
-at_square s = refl
-
-at_brace : (s : List ℕ) → atom (123 ∷ s) ≡ None
-unfolding atom unquoted word_len
-at_brace s = refl
-
-at_mark : (s : List ℕ) → atom (239 ∷ s) ≡ None
-unfolding atom unquoted word_len
-at_mark s = refl
-
--- a bracket in front, by a test
-atom_none : (c : ℕ) (s : List ℕ) → (c == 91 || c == 123) ≡ true → atom (c ∷ s) ≡ None
-atom_none c s is = elim (cases_Bool (c == 91)) [
-  | inl square ↦ subst (λ (x : ℕ). atom (x ∷ s) ≡ None) (sym (eqb-true c 91 square)) (at_square s)
-  | inr other ↦ subst (λ (x : ℕ). atom (x ∷ s) ≡ None) (sym (eqb-true c 123 (rw other at is))) (at_brace s)
-]
+atom_none c s is = search rules
 
 -- a string or a word
 pub atom_alone : (s : List ℕ) → Alone (Tells atom) s (atom s)
@@ -186,7 +163,7 @@ byte_alone byte some value f skipped (c ∷ s) = elim (cases_Bool (c == byte)) [
 -- a key and `=`
 pub key_equals_alone : (s : List ℕ) → Alone (Tells key_equals) s (key_equals s)
 unfolding key_equals
-key_equals_alone s = alone_then _ (key_alone s) (λ k rest. byte_alone 61 refl k skip_ws ws_alone rest) (λ t k t' v r up is on. record { told = rw is.told on.told; shorter = omega (arith, is.shorter, on.shorter) })
+key_equals_alone s = alone_then _ (key_after_alone 80 [] s) (λ k rest. byte_alone 61 refl k skip_ws ws_alone rest) (λ t k t' v r up is on. record { told = rw is.told on.told; shorter = omega (arith, is.shorter, on.shorter) })
 
 -- a comma, or the closing bracket, which stays
 abbrev comma_or : ℕ → List ℕ → Option (List ℕ)
@@ -217,18 +194,87 @@ module _ {A : Type 0} {P : List ℕ → A → List ℕ → Type 0} (closing : �
   after_alone s = alone_skip (λ u. option_and_then next (comma_or closing u)) (skip_alone true false s) comma_alone
       (λ t t' v r up is on. record { rest = on.rest; is = ap (comma_or closing) is ∙ on.is; up = omega (arith, up, on.up); on = on.on })
 
+-- ---- lists
+
+-- what a reader of some depth tells, at this depth or a greater one
+pub record Deepens {A : Type 0} (reader : ℕ → List ℕ → Read A) (depth : ℕ) (t : List ℕ) (v : A) (r : List ℕ) : Type 0 where
+  pub told : (up : ℕ) → depth ≤ up → reader up t ≡ Some (v, r)
+  pub shorter : length r < length t
+
+module _ {E F B : Type 0} (closing : ℕ) (some : (0 == closing) ≡ false) (element : ℕ → List ℕ → Read E) (grow : E → F → Option F) (end : F → B) (loop : ℕ → ℕ → F → List ℕ → Read B) where
+  -- after an element, which may be refused
+  abbrev grown : ℕ → ℕ → Option F → List ℕ → Read B
+  grown up m found t = option_and_then (λ more. option_and_then (loop up m more) (after_element closing t)) found
+
+  -- a list at the first byte that is no blank
+  abbrev list_at : ℕ → ℕ → F → List ℕ → Read B
+  list_at up m found t = cond (first t == closing) (Some (end found, drop 1 t)) (option_and_then (λ e. grown up m (grow e.0 found) e.1) (element up t))
+
+  -- the loop reads that, turn by turn
+  record IsList : Type 0 where
+    over : (up : ℕ) (found : F) (t : List ℕ) → loop up zero found t ≡ None
+    turn : (up m : ℕ) (found : F) (t : List ℕ) → loop up (suc m) found t ≡ list_at up m found (skip_blank t)
+
+  -- what it tells, in as many elements as the text has bytes or more
+  record TellsList (depth : ℕ) (found : F) (t : List ℕ) (v : B) (r : List ℕ) : Type 0 where
+    told : (up m : ℕ) → depth ≤ up → length t ≤ m → loop up m found t ≡ Some (v, r)
+    shorter : length r < length t
+
+  -- after an element
+  record TellsGrown (depth : ℕ) (found : Option F) (t : List ℕ) (v : B) (r : List ℕ) : Type 0 where
+    told : (up m : ℕ) → depth ≤ up → length t ≤ m → grown up m found t ≡ Some (v, r)
+    shorter : length r < length t
+
+  -- and behind blanks
+  record TellsAt (depth : ℕ) (found : F) (t : List ℕ) (v : B) (r : List ℕ) : Type 0 where
+    told : (up m : ℕ) → depth ≤ up → length t ≤ suc m → list_at up m found t ≡ Some (v, r)
+    shorter : length r < length t
+
+  module _ (is : IsList) (depth : ℕ) (empty : element depth [] ≡ None) (elements : (s : List ℕ) → Alone (Deepens element depth) s (element depth s)) where
+    -- after an element, with those that follow
+    grown_alone : (n : ℕ) → ((found : F) (u : List ℕ) → Alone (TellsList depth found) u (loop depth n found u)) → (found : Option F) (s : List ℕ) → Alone (TellsGrown depth found) s (grown depth n found s)
+    grown_alone n more None s = refuses refl
+    grown_alone n more (Some found) s = as_read (after_alone closing some (loop depth n found) (more found) (λ t v r on. on.shorter) s) (λ t b v r whole up next.
+        record { told = λ up m enough fits. rw next.is (next.on.told up m enough (omega (arith, fits, next.up))); shorter = omega (arith, next.up, next.on.shorter) })
+
+    -- the list there
+    at_alone : (n : ℕ) (found : F) → ((found : F) (u : List ℕ) → Alone (TellsList depth found) u (loop depth n found u)) → (s : List ℕ) → Alone (TellsAt depth found) s (list_at depth n found s)
+    at_alone n found more [] = rw (some, empty) (refuses refl)
+    at_alone n found more (c ∷ s) = elim (cases_Bool (c == closing)) [
+      | inl closes ↦ rw closes (reads (end found) (c ∷ []) s refl refl (λ r b cut. record { told = λ up m enough fits. rw closes refl; shorter = omega arith }))
+      | inr other ↦
+          let next = λ (e : E × List ℕ). grown depth n (grow e.0 found) e.1 in
+          let here : Alone (λ t v r. (e : E) × (t' : List ℕ) × Deepens element depth t e t' × TellsGrown depth (grow e found) t' v r) (c ∷ s) (option_and_then next (element depth (c ∷ s))) =
+          alone_then next (elements (c ∷ s)) (λ e rest. grown_alone n more (grow e found) rest) (λ t e t' v r up one on. (e, t', one, on)) in
+          rw other (as_read here (λ t b v r whole up told.
+          let begins : first t ≡ c = begins_so c s t b r whole (omega (arith, told.2.shorter, told.3.shorter)) in
+          record {
+            told = λ up m enough fits. rw (begins, other, told.2.told up enough) (told.3.told up m enough (omega (arith, fits, told.2.shorter)));
+            shorter = omega (arith, told.2.shorter, told.3.shorter);
+          }))
+    ]
+
+    -- what it tells after the blanks in front of it
+    list_told : (found : F) (t t' : List ℕ) (v : B) (r : List ℕ) → skip_blank t ≡ t' → length t' ≤ length t → TellsAt depth found t' v r → (up m : ℕ) → depth ≤ up → length t ≤ m → loop up m found t ≡ Some (v, r)
+    list_told found t t' v r skips shorter on up zero enough fits = absurd (omega (arith, fits, shorter, on.shorter))
+    list_told found t t' v r skips shorter on up (suc m) enough fits = is.turn up m found t ∙ rw skips (on.told up m enough (omega (arith, fits, shorter)))
+
+    -- a list of so many elements at most
+    list_alone : (n : ℕ) (found : F) (s : List ℕ) → Alone (TellsList depth found) s (loop depth n found s)
+    list_alone zero found s = refuses (is.over depth found s)
+    list_alone (suc n) found s = rw (is.turn depth n found s) (alone_skip (list_at depth n found) (skip_alone true false s) (at_alone n found (λ more u. list_alone n more u))
+        (λ t t' v r up skips on. record { told = list_told found t t' v r skips up on; shorter = omega (arith, up, on.shorter) }))
+
 -- ---- values
 
--- what a value tells, at this depth or a greater one
-pub record TellsVal (depth : ℕ) (t : List ℕ) (d : Data) (r : List ℕ) : Type 0 where
-  pub told : (up : ℕ) → depth ≤ up → val up t ≡ Some (d, r)
-  pub shorter : length r < length t
+-- what a value tells
+abbrev pub TellsVal : ℕ → List ℕ → Data → List ℕ → Type 0
+TellsVal = Deepens val
 
 -- a string or a word is a value at any depth
 val_atom : (up : ℕ) (t : List ℕ) (d : Data) (r : List ℕ) → (first t == 91) ≡ false → (first t == 123) ≡ false → atom t ≡ Some (d, r) → val up t ≡ Some (d, r)
 unfolding val
-val_atom zero t d r square brace is = is
-val_atom (suc up) t d r square brace is = rw (square, brace) is
+val_atom up t d r square brace is = search rules
 
 -- so it is read alone
 word_or_string : (depth c : ℕ) (s : List ℕ) → (c == 91) ≡ false → (c == 123) ≡ false → Alone (TellsVal depth) (c ∷ s) (atom (c ∷ s))
@@ -236,160 +282,55 @@ word_or_string depth c s square brace = as_read (atom_alone (c ∷ s)) (λ t b v
     let begins : first t ≡ c = begins_so c s t b r whole on.shorter in
     record { told = λ up enough. val_atom up t v r (rw begins square) (rw begins brace) on.told; shorter = on.shorter })
 
-module _ (depth : ℕ) (on : (s : List ℕ) → Alone (TellsVal depth) s (val depth s)) where
-  -- what a key and its value tell
-  pub record TellsPair (t : List ℕ) (p : Key × Data) (r : List ℕ) : Type 0 where
-    pub told : (up : ℕ) → depth ≤ up → keyval (val up) t ≡ Some (p, r)
-    pub shorter : length r < length t
-
-  -- a key and its value
-  pub pair_alone : (s : List ℕ) → Alone TellsPair s (keyval (val depth) s)
-  pair_alone s = alone_then {Q = λ k t p r. ((up : ℕ) → depth ≤ up → read_map (λ (d : Data). (k, d)) (val up t) ≡ Some (p, r)) × (length r < length t)} _ (key_equals_alone s)
-      (λ k rest. alone_map (λ d. (k, d)) (on rest) (λ t d r is. (λ up enough. ap (read_map (λ (d : Data). (k, d))) (is.told up enough), is.shorter)))
-      (λ t k t' p r up is is_on. record { told = λ up enough. rw is.told (is_on.0 up enough); shorter = omega (arith, is.shorter, is_on.1) })
-
-  -- what the items of an array tell, in as many as the text has bytes or more
-  pub record TellsItems (found : Items) (t : List ℕ) (v : Items) (r : List ℕ) : Type 0 where
-    pub told : (up m : ℕ) → depth ≤ up → length t ≤ m → items (val up) m found t ≡ Some (v, r)
-    pub shorter : length r < length t
-
-  -- the same at the first byte that is no blank
-  abbrev items_at : ℕ → ℕ → Items → List ℕ → Read Items
-  items_at up m found t = cond (first t == 93) (Some (found, drop 1 t)) (option_and_then (λ v. option_and_then (items (val up) m (push_item found v.0)) (after_element 93 v.1)) (val up t))
-
-  -- what they tell there
-  record TellsItemsAt (found : Items) (t : List ℕ) (v : Items) (r : List ℕ) : Type 0 where
-    told : (up m : ℕ) → depth ≤ up → length t ≤ suc m → items_at up m found t ≡ Some (v, r)
-    shorter : length r < length t
-
-  -- the items there, with those that follow the first
-  items_at_alone : (n : ℕ) (found : Items) → ((found : Items) (u : List ℕ) → Alone (TellsItems found) u (items (val depth) n found u)) → val depth [] ≡ None → (s : List ℕ) → Alone (TellsItemsAt found) s (items_at depth n found s)
-  items_at_alone n found more empty [] = rw empty (refuses refl)
-  items_at_alone n found more empty (c ∷ s) = elim (cases_Bool (c == 93)) [
-    | inl closes ↦ rw closes (reads found (c ∷ []) s refl refl (λ r b cut. record { told = λ up m enough fits. rw closes refl; shorter = omega arith }))
-    | inr other ↦
-        let next = λ (v : Data × List ℕ). option_and_then (items (val depth) n (push_item found v.0)) (after_element 93 v.1) in
-        let here : Alone (λ t v r. (d : Data) × (t' : List ℕ) × TellsVal depth t d t' × TellsNext (TellsItems (push_item found d)) (after_element 93) t' v r) (c ∷ s) (option_and_then next (val depth (c ∷ s))) =
-        alone_then next (on (c ∷ s)) (λ d rest. after_alone 93 refl (items (val depth) n (push_item found d)) (more (push_item found d)) (λ t v r is. is.shorter) rest) (λ t d t' v r up is is_on. (d, t', is, is_on)) in
-        rw other (as_read here (λ t b v r whole up is.
-        let begins : first t ≡ c = begins_so c s t b r whole (omega (arith, is.2.shorter, is.3.up, is.3.on.shorter)) in
-        record {
-          told = λ up m enough fits. rw (begins, other, is.2.told up enough, is.3.is) (is.3.on.told up m enough (omega (arith, fits, is.2.shorter, is.3.up)));
-          shorter = omega (arith, is.2.shorter, is.3.up, is.3.on.shorter);
-        }))
-  ]
-
-  -- what the items tell after the blanks in front of them
-  items_told : (found : Items) (t t' : List ℕ) (v : Items) (r : List ℕ) → skip_blank t ≡ t' → length t' ≤ length t → TellsItemsAt found t' v r → (up m : ℕ) → depth ≤ up → length t ≤ m → items (val up) m found t ≡ Some (v, r)
-  unfolding items
-  items_told found t t' v r is shorter on up zero enough fits = absurd (omega (arith, fits, shorter, on.shorter))
-  items_told found t t' v r is shorter on up (suc m) enough fits = rw is (on.told up m enough (omega (arith, fits, shorter)))
-
-  -- the items of an array, so many at most
-  pub items_alone : val depth [] ≡ None → (n : ℕ) (found : Items) (s : List ℕ) → Alone (TellsItems found) s (items (val depth) n found s)
-  unfolding items
-  items_alone empty zero found s = refuses refl
-  items_alone empty (suc n) found s = alone_skip (items_at depth n found) (skip_alone true false s) (items_at_alone n found (λ more u. items_alone empty n more u) empty)
-      (λ t t' v r up is on. record { told = items_told found t t' v r is up on; shorter = omega (arith, up, on.shorter) })
-
-  -- what the pairs of an inline table tell, in as many as the text has bytes or more
-  pub record TellsMembers (found : Nodes) (t : List ℕ) (v : Members) (r : List ℕ) : Type 0 where
-    pub told : (up m : ℕ) → depth ≤ up → length t ≤ m → members (val up) m found t ≡ Some (v, r)
-    pub shorter : length r < length t
-
-  -- after a pair, which the table may refuse
-  abbrev put_then : ℕ → ℕ → Option Nodes → List ℕ → Read Members
-  put_then up m put_in t = option_and_then (λ more. option_and_then (members (val up) m more) (after_element 125 t)) put_in
-
-  -- what is told there
-  record TellsPut (put_in : Option Nodes) (t : List ℕ) (v : Members) (r : List ℕ) : Type 0 where
-    told : (up m : ℕ) → depth ≤ up → length t ≤ m → put_then up m put_in t ≡ Some (v, r)
-    shorter : length r < length t
-
-  -- and read alone
-  put_alone : (n : ℕ) → ((found : Nodes) (u : List ℕ) → Alone (TellsMembers found) u (members (val depth) n found u)) → (put_in : Option Nodes) (s : List ℕ) → Alone (TellsPut put_in) s (put_then depth n put_in s)
-  put_alone n more None s = refuses refl
-  put_alone n more (Some found) s = as_read (after_alone 125 refl (members (val depth) n found) (more found) (λ t v r is. is.shorter) s) (λ t b v r whole up is.
-      record { told = λ up m enough fits. rw is.is (is.on.told up m enough (omega (arith, fits, is.up))); shorter = omega (arith, is.up, is.on.shorter) })
-
-  -- the same at the first byte that is no blank
-  abbrev members_at : ℕ → ℕ → Nodes → List ℕ → Read Members
-  members_at up m found t = cond (first t == 125) (Some (close found, drop 1 t)) (option_and_then (λ e. put_then up m (put e.0.0 e.0.1 found) e.1) (keyval (val up) t))
-
-  -- what the pairs tell there
-  record TellsMembersAt (found : Nodes) (t : List ℕ) (v : Members) (r : List ℕ) : Type 0 where
-    told : (up m : ℕ) → depth ≤ up → length t ≤ suc m → members_at up m found t ≡ Some (v, r)
-    shorter : length r < length t
-
-  -- an empty text has no pair
-  pair_nil : keyval (val depth) [] ≡ None
-  unfolding key_equals key_after simple_key
-  pair_nil = refl
-
-  -- the pairs there, with those that follow the first
-  members_at_alone : (n : ℕ) (found : Nodes) → ((found : Nodes) (u : List ℕ) → Alone (TellsMembers found) u (members (val depth) n found u)) → (s : List ℕ) → Alone (TellsMembersAt found) s (members_at depth n found s)
-  members_at_alone n found more [] = rw pair_nil (refuses refl)
-  members_at_alone n found more (c ∷ s) = elim (cases_Bool (c == 125)) [
-    | inl closes ↦ rw closes (reads (close found) (c ∷ []) s refl refl (λ r b cut. record { told = λ up m enough fits. rw closes refl; shorter = omega arith }))
-    | inr other ↦
-        let next = λ (e : (Key × Data) × List ℕ). put_then depth n (put e.0.0 e.0.1 found) e.1 in
-        let here : Alone (λ t v r. (p : Key × Data) × (t' : List ℕ) × TellsPair t p t' × TellsPut (put p.0 p.1 found) t' v r) (c ∷ s) (option_and_then next (keyval (val depth) (c ∷ s))) =
-        alone_then next (pair_alone (c ∷ s)) (λ p rest. put_alone n more (put p.0 p.1 found) rest) (λ t p t' v r up is is_on. (p, t', is, is_on)) in
-        rw other (as_read here (λ t b v r whole up is.
-        let begins : first t ≡ c = begins_so c s t b r whole (omega (arith, is.2.shorter, is.3.shorter)) in
-        record {
-          told = λ up m enough fits. rw (begins, other, is.2.told up enough) (is.3.told up m enough (omega (arith, fits, is.2.shorter)));
-          shorter = omega (arith, is.2.shorter, is.3.shorter);
-        }))
-  ]
-
-  -- what the pairs tell after the blanks in front of them
-  members_told : (found : Nodes) (t t' : List ℕ) (v : Members) (r : List ℕ) → skip_blank t ≡ t' → length t' ≤ length t → TellsMembersAt found t' v r → (up m : ℕ) → depth ≤ up → length t ≤ m → members (val up) m found t ≡ Some (v, r)
-  unfolding members
-  members_told found t t' v r is shorter on up zero enough fits = absurd (omega (arith, fits, shorter, on.shorter))
-  members_told found t t' v r is shorter on up (suc m) enough fits = rw is (on.told up m enough (omega (arith, fits, shorter)))
-
-  -- the pairs of an inline table, so many at most
-  pub members_alone : (n : ℕ) (found : Nodes) (s : List ℕ) → Alone (TellsMembers found) s (members (val depth) n found s)
-  unfolding members
-  members_alone zero found s = refuses refl
-  members_alone (suc n) found s = alone_skip (members_at depth n found) (skip_alone true false s) (members_at_alone n found (λ more u. members_alone n more u))
-      (λ t t' v r up is on. record { told = members_told found t t' v r is up on; shorter = omega (arith, up, on.shorter) })
-
--- an empty text has no value
-pub val_nil : (depth : ℕ) → val depth [] ≡ None
+-- an empty text has no value, and no pair
+val_nil : (depth : ℕ) → val depth [] ≡ None
 unfolding val
 val_nil zero = atom_nil
 val_nil (suc depth) = atom_nil
 
+pair_nil : (depth : ℕ) → keyval (val depth) [] ≡ None
+unfolding key_equals key_after simple_key
+pair_nil depth = refl
+
 -- nor has one that begins with a byte order mark
-mark_at : (depth : ℕ) (s : List ℕ) → val depth (239 ∷ s) ≡ None
-unfolding val
-mark_at zero s = at_mark s
-mark_at (suc depth) s = at_mark s
-
--- the same, by a test
 pub val_mark : (depth c : ℕ) (s : List ℕ) → (c == 239) ≡ true → val depth (c ∷ s) ≡ None
-val_mark depth c s mark = subst (λ (x : ℕ). val depth (x ∷ s) ≡ None) (sym (eqb-true c 239 mark)) (mark_at depth s)
-
--- an array, at a greater depth
-array_told : (depth c : ℕ) (t : List ℕ) (v : Items) (r : List ℕ) → (c == 91) ≡ true → ((up m : ℕ) → depth ≤ up → length t ≤ m → items (val up) m no_items t ≡ Some (v, r)) → (up : ℕ) → suc depth ≤ up → val up (c ∷ t) ≡ Some (array v, r)
 unfolding val
-array_told depth c t v r opens on zero enough = absurd (omega (arith, enough))
-array_told depth c t v r opens on (suc up) enough = rw opens (ap (read_map array) (on up (length (c ∷ t)) (omega (arith, enough)) (omega arith)))
+val_mark zero c s mark = atom_none c s (rw mark (grind (arith, nat_tests)))
+val_mark (suc depth) c s mark =
+    let square : (c == 91) ≡ false = grind (arith, nat_tests) in
+    let brace : (c == 123) ≡ false = grind (arith, nat_tests) in
+    rw (square, brace) (atom_none c s (rw (square, brace) mark))
 
--- an inline table, at a greater depth
-table_told : (depth c : ℕ) (t : List ℕ) (v : Members) (r : List ℕ) → (c == 91) ≡ false → (c == 123) ≡ true → ((up m : ℕ) → depth ≤ up → length t ≤ m → members (val up) m no_nodes t ≡ Some (v, r)) → (up : ℕ) → suc depth ≤ up → val up (c ∷ t) ≡ Some (table v, r)
-unfolding val
-table_told depth c t v r other opens on zero enough = absurd (omega (arith, enough))
-table_told depth c t v r other opens on (suc up) enough = rw (other, opens) (ap (read_map table) (on up (length (c ∷ t)) (omega (arith, enough)) (omega arith)))
+module _ (depth : ℕ) (on : (s : List ℕ) → Alone (TellsVal depth) s (val depth s)) where
+  -- a key and its value
+  pair_alone : (s : List ℕ) → Alone (Deepens (λ up. keyval (val up)) depth) s (keyval (val depth) s)
+  pair_alone s = alone_then {Q = λ k. Deepens (λ up t. read_map (λ (d : Data). (k, d)) (val up t)) depth} _ (key_equals_alone s)
+      (λ k rest. alone_map (λ d. (k, d)) (on rest) (λ t d r is. record { told = λ up enough. ap (read_map (λ (d : Data). (k, d))) (is.told up enough); shorter = is.shorter }))
+      (λ t k t' p r up is is_on. record { told = λ up enough. rw is.told (is_on.told up enough); shorter = omega (arith, is.shorter, is_on.shorter) })
+
+  -- the items of an array
+  items_alone : (n : ℕ) (s : List ℕ) → Alone (λ t v r. ((up m : ℕ) → depth ≤ up → length t ≤ m → items (val up) m no_items t ≡ Some (v, r)) × (length r < length t)) s (items (val depth) n no_items s)
+  unfolding items
+  items_alone n s = as_read (list_alone 93 refl val (λ d found. Some (push_item found d)) (λ found. found) (λ up m found t. items (val up) m found t)
+      (record { over = λ up found t. refl; turn = λ up m found t. refl }) depth (val_nil depth) on n no_items s) (λ t b v r whole up is. (is.told, is.shorter))
+
+  -- the pairs of an inline table
+  members_alone : (n : ℕ) (s : List ℕ) → Alone (λ t v r. ((up m : ℕ) → depth ≤ up → length t ≤ m → members (val up) m no_nodes t ≡ Some (v, r)) × (length r < length t)) s (members (val depth) n no_nodes s)
+  unfolding members
+  members_alone n s = as_read (list_alone 125 refl (λ up. keyval (val up)) (λ p found. put p.0 p.1 found) close (λ up m found t. members (val up) m found t)
+      (record { over = λ up found t. refl; turn = λ up m found t. refl }) depth (pair_nil depth) pair_alone n no_nodes s) (λ t b v r whole up is. (is.told, is.shorter))
+
+-- what is told at a depth that has room for one more
+deeper : (depth : ℕ) (t r : List ℕ) (d : Data) → ((up : ℕ) → depth ≤ up → val (suc up) t ≡ Some (d, r)) → (up : ℕ) → suc depth ≤ up → val up t ≡ Some (d, r)
+deeper depth t r d told zero enough = absurd (omega (arith, enough))
+deeper depth t r d told (suc up) enough = told up (omega (arith, enough))
 
 -- a value
 pub val_alone : (depth : ℕ) (s : List ℕ) → Alone (TellsVal depth) s (val depth s)
 unfolding val
 val_alone zero [] = refuses atom_nil
 val_alone zero (c ∷ s) = elim (cases_Bool (c == 91 || c == 123)) [
-  | inl opens ↦ refuses (atom_none c s opens)
+  | inl opens ↦ refuses (atom_none c s (rw opens refl))
   | inr other ↦
       let (square, brace) = or_parts (c == 91) (c == 123) other in
       word_or_string zero c s square brace
@@ -397,13 +338,17 @@ val_alone zero (c ∷ s) = elim (cases_Bool (c == 91 || c == 123)) [
 val_alone (suc depth) [] = refuses atom_nil
 val_alone (suc depth) (c ∷ s) = elim (cases_Bool (c == 91)) [
   | inl opens ↦
-      let here : Alone (λ t v r. TellsVal (suc depth) (c ∷ t) v r) s (read_map array (items (val depth) (length (c ∷ s)) no_items s)) = alone_map array (items_alone depth (val_alone depth) (val_nil depth) (length (c ∷ s)) no_items s)
-      (λ t v r on. record { told = array_told depth c t v r opens on.told; shorter = omega (arith, on.shorter) }) in
+      let here : Alone (λ t v r. TellsVal (suc depth) (c ∷ t) v r) s (read_map array (items (val depth) (length (c ∷ s)) no_items s)) = alone_map array (items_alone depth (val_alone depth) (length (c ∷ s)) s) (λ t v r on. record {
+        told = deeper depth (c ∷ t) r (array v) (λ up enough. rw opens (ap (read_map array) (on.0 up (length (c ∷ t)) enough (omega arith))));
+        shorter = omega (arith, on.1);
+      }) in
       rw opens (behind c here (λ t v r up on. on))
   | inr other ↦ elim (cases_Bool (c == 123)) [
     | inl opens ↦
-        let here : Alone (λ t v r. TellsVal (suc depth) (c ∷ t) v r) s (read_map table (members (val depth) (length (c ∷ s)) no_nodes s)) = alone_map table (members_alone depth (val_alone depth) (length (c ∷ s)) no_nodes s)
-        (λ t v r on. record { told = table_told depth c t v r other opens on.told; shorter = omega (arith, on.shorter) }) in
+        let here : Alone (λ t v r. TellsVal (suc depth) (c ∷ t) v r) s (read_map table (members (val depth) (length (c ∷ s)) no_nodes s)) = alone_map table (members_alone depth (val_alone depth) (length (c ∷ s)) s) (λ t v r on. record {
+          told = deeper depth (c ∷ t) r (table v) (λ up enough. rw (other, opens) (ap (read_map table) (on.0 up (length (c ∷ t)) enough (omega arith))));
+          shorter = omega (arith, on.1);
+        }) in
         rw (other, opens) (behind c here (λ t v r up on. on))
     | inr neither ↦ rw (other, neither) (word_or_string (suc depth) c s other neither)
   ]

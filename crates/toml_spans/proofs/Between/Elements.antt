@@ -1,13 +1,12 @@
 -- Elements that were read one after the other, and what stands between them.
-use Rattle.std.proofs.Common.{◌≡◌, ℕ, zero, suc, false, ◌==◌, List, ◌∷◌, length, drop, Option, Some, None, sym, ap, subst, ◌∙◌, inl, inr}
+use Rattle.std.proofs.Common.{◌≡◌, ℕ, zero, suc, false, ◌==◌, List, ◌∷◌, length, drop, Option, Some, None, sym, ap, ◌∙◌, rules}
 use Rattle.std.proofs.lemmas.Option.{none-some, same_Some}
 use Rattle.toml_parser.specs.Lexical.{first, skip_blank}
 use Rattle.toml.specs.Parse.{after_element}
-use Rattle.toml.specs.Tables.{header}
-use Rattle.toml_spans.specs.Entry.{array, after_key, Branches, elements, get_tree, inline, no_trees, Piece, piece, pieces_of, push_tree, scalar, table, tables, Tree, tree, Trees}
+use Rattle.toml_spans.specs.Entry.{array, after_key, get_tree, inline, no_trees, Piece, piece, pieces_of, push_tree, scalar, table, tables, Tree, tree, Trees}
 use Rattle.toml_spans.proofs.Order.Keys.{holds_after_key}
 use Rattle.toml_spans.proofs.Order.Changes.{IsKept}
-use Rattle.toml_spans.proofs.Order.Holds.{get_pushed, holds_here, HoldsBelow}
+use Rattle.toml_spans.proofs.Order.Holds.{holds_here, HoldsBelow, no_values_more}
 use Rattle.toml_spans.proofs.Trees.Rests.{rest_element, rest_itself, rest_on}
 use Rattle.toml_spans.proofs.Trees.Stands.{IsRest}
 
@@ -72,10 +71,6 @@ reached text end (tree u ts) (suc i) t are is =
     let on = reached are.rest end ts i t are.more is in
     record { before = on.before; from = rest_on (rest_on are.left (rest_element 93 are.behind are.rest are.after)) on.from; here = on.here }
 
--- the first one begins after the bracket
-pub first_begins : (text end : List ℕ) (ts : Trees) (t : Tree) → AreElements text ts end → get_tree zero ts ≡ Some t → (behind : List ℕ) × ((pieces_of t).of_value ≡ Some (piece (skip_blank text) behind))
-first_begins text end ts t are is = subst (λ (o : Option Tree). Follows text o end) is (follows text end ts are)
-
 -- ---- trees
 
 -- what stands between the elements of an array with this piece
@@ -104,13 +99,6 @@ ElementsSpaced text (inline k v bs) = BeginsOther text v
 ElementsSpaced text (table k o bs) = Unit {0}
 ElementsSpaced text (tables k done last bs) = (i : ℕ) (x : Tree) → get_tree i done ≡ Some x → (pieces_of x).of_value ≡ None
 
--- none of the elements of an array that double brackets made has one
-pub tables_none : (text : List ℕ) (k last : Piece) (done : Trees) (bs : Branches) → ElementsSpaced text (tables k done last bs) → (i : ℕ) (x : Tree) → get_tree i (elements done last bs) ≡ Some x → (pieces_of x).of_value ≡ None
-tables_none text k last done bs none i x is = elim (get_pushed i done (table last header bs) x is) [
-  | inl old ↦ none i x old
-  | inr new ↦ ap (λ (t : Tree). (pieces_of t).of_value) (sym new)
-]
-
 -- tables keep it
 pub spaced_kept : (text : List ℕ) → IsKept (ElementsSpaced text) (ElementsSpaced text) (λ k. Unit {0}) (λ k. Unit {0})
 spaced_kept text = record {
@@ -119,16 +107,12 @@ spaced_kept text = record {
   new_tables = λ k fresh i x is. absurd (none-some x is);
   other_table = λ k o p bs cs is. tt;
   other_tables = λ k done last bs cs none. none;
-  one_more = λ k l done last bs fresh none. tables_none text l last done bs none;
+  one_more = λ k l done last bs fresh none. no_values_more done last bs none;
 }
 
 -- so does a key in front
 spaced_here : (text : List ℕ) (k : Piece) (t : Tree) → ElementsSpaced text t → ElementsSpaced text (after_key k t)
-spaced_here text k (scalar l v) is = is
-spaced_here text k (array l v ts) is = is
-spaced_here text k (inline l v bs) is = is
-spaced_here text k (table l o bs) is = is
-spaced_here text k (tables l done last bs) is = is
+spaced_here text k t is = search rules
 
 pub spaced_after : (text : List ℕ) (k : Piece) (t : Tree) → HoldsBelow (ElementsSpaced text) t → HoldsBelow (ElementsSpaced text) (after_key k t)
 spaced_after text k t holds = holds_after_key (ElementsSpaced text) k t (spaced_here text k t (holds_here holds)) holds

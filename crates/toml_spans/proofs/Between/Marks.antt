@@ -1,21 +1,20 @@
 -- What keys of inline tables stand after, as they are read.
-use Rattle.std.proofs.Common.{◌≡◌, ◌⊎◌, ℕ, zero, suc, true, false, ◌==◌, ◌||◌, ◌&&◌, ◌+◌, List, [], ◌∷◌, ◌++◌, length, drop, Some, refl, sym, ap, subst, ◌∙◌, inl, inr, arith, eqb-true}
+use Rattle.std.proofs.Common.{◌≡◌, ◌⊎◌, ℕ, zero, suc, true, false, ◌==◌, List, [], ◌∷◌, ◌++◌, length, drop, Some, refl, sym, ap, subst, ◌∙◌, inl, inr, arith, eqb-true}
 use Rattle.std.proofs.lemmas.Bool.{cases_Bool, false≢true}
 use Rattle.std.proofs.lemmas.Bool.Decides.{nat_tests}
 use Rattle.std.proofs.lemmas.Option.{none-some, same_Some}
-use Rattle.std.specs.List.{AllByRecursion, prefix_len}
+use Rattle.std.specs.List.{AllByRecursion}
 use Rattle.toml.proofs.Blanks.{skip_none, skip_start}
 use Rattle.toml.specs.Parse.{after_byte, after_element}
-use Rattle.toml_parser.specs.Lexical.{first, is_bare, is_ws, skip_blank, skip_from, skip_turn, skip_ws}
+use Rattle.toml_parser.specs.Lexical.{first, is_bare, skip_blank, skip_ws}
 use Rattle.toml_parser.specs.Strings.{simple_key, starts_string}
 use Rattle.toml_spans.specs.Entry.{Piece, piece}
 use Rattle.toml_spans.specs.Key.{Part, Parts, parts_after}
 use Rattle.toml_spans.specs.Value.{parts_equals}
-use Rattle.toml_spans.proofs.Alone.{part_alone}
-use Rattle.toml_spans.proofs.Between.Values.{begins_with, found_test}
-use Rattle.toml_spans.proofs.Found.{Found, found_any, found_map, found_none, found_some, found_then}
-use Rattle.toml_spans.proofs.Trees.Keys.{all_more}
-use Rattle.toml_spans.proofs.Trees.Rests.{rest_blank, rest_dropped, rest_on, rest_ws}
+use Rattle.toml_spans.proofs.Alone.Lexical.{blank_ws}
+use Rattle.toml_spans.proofs.Found.{Found, found_any, found_map, found_none, found_same, found_some, found_test, found_then}
+use Rattle.toml_spans.proofs.Elements.{all_joined}
+use Rattle.toml_spans.proofs.Trees.Rests.{begins_with, rest_blank, rest_dropped, rest_on, rest_part, rest_ws}
 use Rattle.toml_spans.proofs.Trees.Stands.{IsRest}
 
 -- a brace, a comma or a dot
@@ -49,48 +48,6 @@ key_start text r is = elim (cases_Bool (starts_string text)) [
   ]
 ]
 
--- a byte of white space is skipped
-ws_more : (c : ℕ) (text : List ℕ) → is_ws c ≡ true → skip_ws (c ∷ text) ≡ skip_ws text
-unfolding skip_ws
-ws_more c text space = rw space (ap (λ (n : ℕ). drop n (c ∷ text)) (one_more (prefix_len is_ws text)))
-  where
-    one_more : (n : ℕ) → 1 + n ≡ suc n
-    one_more n = omega arith
-
--- and it is blank
-ws_turn : (c next : ℕ) → is_ws c ≡ true → skip_turn true false c next ≡ Some false
-ws_turn c next space = elim (cases_Bool (c == 10 || (c == 13 && next == 10))) [
-  | inl ends ↦ rw ends refl
-  | inr other ↦ rw (other, space) refl
-]
-
-blank_more : (c : ℕ) (text : List ℕ) → is_ws c ≡ true → skip_blank (c ∷ text) ≡ skip_blank text
-unfolding skip_from
-blank_more c text space = rw (ws_turn c (first text) space) refl
-
--- no other byte is white space
-ws_none : (c : ℕ) (text : List ℕ) → is_ws c ≡ false → skip_ws (c ∷ text) ≡ c ∷ text
-unfolding skip_ws
-ws_none c text other = rw other refl
-
-ws_nil : skip_ws [] ≡ []
-unfolding skip_ws
-ws_nil = refl
-
--- so nothing but blanks stands before what white space leaves
-blank_ws : (text : List ℕ) → skip_blank (skip_ws text) ≡ skip_blank text
-blank_ws [] = ap skip_blank ws_nil
-blank_ws (c ∷ text) = elim (cases_Bool (is_ws c)) [
-  | inl space ↦ ap skip_blank (ws_more c text space) ∙ blank_ws text ∙ sym (blank_more c text space)
-  | inr other ↦ ap skip_blank (ws_none c text other)
-]
-
--- ---- keys
-
--- after a part of a key
-rest_simple : (text rest k : List ℕ) → simple_key text ≡ Some (k, rest) → IsRest text rest
-rest_simple text rest k is = let (front, cut, reads) = part_alone text rest k is in record { front = front; cut = cut }
-
 module _ (text : List ℕ) where
   -- what is known where a key is read
   abbrev StartsKey : List ℕ → Type 0
@@ -114,20 +71,21 @@ module _ (text : List ℕ) where
   unfolding parts_after
   parts_marked zero path start from before starts = found_none
   parts_marked (suc n) path start from before starts =
-      found_then {P = λ read. StartsMarked text start × IsRest start read.1} _ (found_any {o = simple_key start} (λ read is. (starts read is, rest_simple start read.1 read.0 is))) (λ read known.
+      found_same _ (λ read is.
       let part : Part = (read.0, piece start read.1) in
-      let marked : IsMarked text part.1 = record { start = start; marked = known.0; begins = refl } in
+      let marked : IsMarked text part.1 = record { start = start; marked = starts read is; begins = refl } in
       let rest = skip_ws read.1 in
-      let rest_from : IsRest text rest = rest_on (rest_on from known.1) (rest_ws read.1) in
+      let rest_from : IsRest text rest = rest_on (rest_on from (rest_part start read.1 read.0 is)) (rest_ws read.1) in
       found_test (first rest == 46)
-      (λ dot. parts_marked n (path ++ part ∷ []) (skip_ws (drop 1 rest)) (rest_on (rest_on rest_from (rest_dropped 1 rest)) (rest_ws (drop 1 rest))) (all_more (λ p. IsMarked text p.1) path part before marked)
+      (λ dot. parts_marked n (path ++ part ∷ []) (skip_ws (drop 1 rest)) (rest_on (rest_on rest_from (rest_dropped 1 rest)) (rest_ws (drop 1 rest))) (all_joined (λ p. IsMarked text p.1) path (part ∷ []) before (marked, tt))
       (dot_starts rest rest_from dot))
       (λ _. found_some _ (before, marked)))
 
   -- a key and `=`
   pub equals_marked : (start : List ℕ) → IsRest text start → StartsMarked text start → Found (parts_equals start) (λ r. PartsMarked r.0)
   unfolding parts_equals
-  equals_marked start from marked = found_then _ (parts_marked 80 [] start from tt (λ r is. marked)) (λ k parts. found_map _ (found_any {o = after_byte 61 k.1} (λ rest is. is)) (λ rest _. parts))
+  equals_marked start from marked = found_then _ (parts_marked 80 [] start from tt (λ r is. marked)) (λ k parts.
+      found_map _ (found_any {o = after_byte 61 k.1} (λ rest is. is)) (λ rest _. parts))
 
   -- after a member, where there is another one
   pub after_marked : (t s : List ℕ) → IsRest text t → after_element 125 t ≡ Some s → (first (skip_blank s) == 125) ≡ false → StartsMarked text (skip_blank s)

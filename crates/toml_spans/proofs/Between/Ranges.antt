@@ -1,60 +1,19 @@
 -- What stands between the elements of an array, by the ranges of a document.
-use Rattle.std.proofs.Common.{◌≡◌, ℕ, suc, ◌-◌, ◌==◌, List, [], ◌∷◌, ◌++◌, length, drop, Option, Some, None, option_and_then, option_map, refl, sym, ap, subst, ◌∙◌, arith, length-append}
+use Rattle.std.proofs.Common.{◌≡◌, ℕ, suc, ◌-◌, ◌==◌, List, [], ◌∷◌, ◌++◌, length, drop, Option, Some, None, option_and_then, option_map, refl, sym, ap, subst, ◌∙◌, rules}
 use Rattle.std.proofs.lemmas.Bool.{false≢true}
-use Rattle.std.proofs.lemmas.List.{nil_from_length}
-use Rattle.std.proofs.lemmas.Option.{none-some, option_and_then_some, same_Some}
-use Rattle.std.proofs.NetLemmas.Options.{map_some}
+use Rattle.std.proofs.lemmas.Option.{none-some, same_Some}
 use Rattle.toml_parser.specs.Lexical.{first, skip_blank}
 use Rattle.toml.specs.Parse.{after_element}
-use Rattle.toml_spans.specs.Document.{Walk, Walks}
-use Rattle.toml_spans.specs.Entry.{array, Branches, get_tree, inline, Piece, piece, pieces_of, scalar, table, tables, Tree, tree_at, tree_below, tree_from, Trees}
-use Rattle.toml_spans.specs.Ranges.{element, ElementsStand, EmptyArraysEnd, IsFrom, Range, range_of, Ranges, ranges_of}
+use Rattle.toml_spans.specs.Entry.{array, Branches, get_tree, inline, Piece, piece, pieces_of, scalar, table, tables, Tree, tree_at, tree_from, Trees}
+use Rattle.toml_spans.specs.Ranges.{element, ElementsStand, IsFrom, Range, range_of, Ranges, ranges_of}
 use Rattle.toml_spans.specs.Step.{index, PathStep}
-use Rattle.toml_spans.proofs.Between.Elements.{BeginsOther, ElementsSpaced, first_begins, Follows, follows, IsReached, IsSpaced, reached, spaced_kept, tables_none}
-use Rattle.toml_spans.proofs.Between.Values.{pair_value_spaced}
-use Rattle.toml_spans.proofs.Between.Walks.{walk_holds}
-use Rattle.toml_spans.proofs.Order.Holds.{holds_along, HoldsIn}
-use Rattle.toml_spans.proofs.Order.Ranges.{at_from, at_on}
-use Rattle.toml_spans.proofs.Trees.Rests.{rest_blank, rest_dropped, rest_element, rest_on, front_of_front}
+use Rattle.toml_spans.proofs.Between.Elements.{BeginsOther, ElementsSpaced, Follows, follows, IsReached, IsSpaced, reached}
+use Rattle.toml_spans.proofs.Order.Holds.{holds_along, HoldsIn, no_values_more}
+use Rattle.toml_spans.proofs.Pieces.{at_from, at_on, IsOfPiece, itself, of_value}
+use Rattle.toml_spans.proofs.Trees.Rests.{from_rest, place_rest, rest_blank, rest_dropped, rest_element, rest_on}
 use Rattle.toml_spans.proofs.Trees.Stands.{IsRest}
 
--- ---- places
-
--- a rest stands from its place on
-pub from_rest : (text rest : List ℕ) → IsRest text rest → IsFrom text (length text - length rest) rest
-from_rest text rest cut = record { before = cut.front; whole = cut.cut; begins = omega (arith, ap length cut.cut, length-append cut.front rest) }
-
--- one thing stands from a place on
-one_from : (text : List ℕ) (place : ℕ) (one other : List ℕ) → IsFrom text place one → IsFrom text place other → one ≡ other
-one_from text place one other first second =
-    let (between, longer, rest) = front_of_front first.before one second.before other (sym first.whole ∙ second.whole) (omega (arith, first.begins, second.begins)) in
-    let nothing : between ≡ [] = nil_from_length between (omega (arith, first.begins, second.begins, ap length longer, length-append first.before between)) in
-    rest ∙ ap (λ (u : List ℕ). u ++ other) nothing
-
--- so what stands after a piece is what was left there
-place_rest : (text rest behind : List ℕ) (bytes : ℕ) → IsRest text rest → bytes ≡ length text - length rest → IsFrom text bytes behind → behind ≡ rest
-place_rest text rest behind bytes cut same is = one_from text bytes behind rest is (subst (λ (n : ℕ). IsFrom text n rest) (sym same) (from_rest text rest cut))
-
--- ---- paths
-
--- no step more
-itself : (o : Option Tree) → option_and_then (tree_below []) o ≡ o
-itself None = refl
-itself (Some t) = refl
-
 -- ---- ranges
-
--- the range of a value is that of a tree's piece
-pub record OfValue (bytes : ℕ) (root : Branches) (path : List PathStep) (range : Range) : Type 0 where
-  pub tree : Tree
-  pub leads : tree_at root path ≡ Some tree
-  pub spot : Piece
-  pub has : (pieces_of tree).of_value ≡ Some spot
-  pub same : range_of bytes spot ≡ range
-
-pub of_value : (bytes : ℕ) (root : Branches) (path : List PathStep) (range : Range) → (ranges_of bytes root).of_value path ≡ Some range → OfValue bytes root path range
-of_value bytes root path range is = option_and_then_some (λ t. option_map (range_of bytes) (pieces_of t).of_value) (tree_at root path) range is (λ t leads mapped.
-    map_some (range_of bytes) (pieces_of t).of_value range mapped (λ spot has same. record { tree = t; leads = leads; spot = spot; has = has; same = same }))
 
 -- where the range of a piece begins, and where it ends
 pub range_begins : (bytes : ℕ) (spot : Piece) (range : Range) (n : ℕ) → range_of bytes spot ≡ range → spot.0 ≡ n → range.0 ≡ bytes - n
@@ -73,11 +32,9 @@ record OfArray (text : List ℕ) (t : Tree) (i : ℕ) (u : Tree) : Type 0 where
   spaced : IsSpaced text spot trees
 
 of_array : (text : List ℕ) (t u : Tree) (i : ℕ) (w : Piece) → ElementsSpaced text t → tree_from t (index i) ≡ Some u → (pieces_of u).of_value ≡ Some w → OfArray text t i u
-of_array text (scalar k v) u i w spaced from has = absurd (none-some u from)
 of_array text (array k v ts) u i w spaced from has = record { of_key = k; spot = v; trees = ts; is = refl; got = from; spaced = spaced }
-of_array text (inline k v bs) u i w spaced from has = absurd (none-some u from)
-of_array text (table k o bs) u i w spaced from has = absurd (none-some u from)
-of_array text (tables k done last bs) u i w spaced from has = absurd (none-some w (sym (tables_none text k last done bs spaced i u from) ∙ has))
+of_array text (tables k done last bs) u i w spaced from has = absurd (none-some w (sym (no_values_more done last bs spaced i u from) ∙ has))
+of_array text t u i w spaced from has = absurd (none-some u from)
 
 -- a value that begins with a bracket is an array
 record BeginsArray (text : List ℕ) (t : Tree) (v : Piece) : Type 0 where
@@ -108,7 +65,7 @@ module _ (text : List ℕ) (root : Branches) (spaced : HoldsIn (ElementsSpaced t
 
   -- what is known of an element
   record Element (path : List PathStep) (i : ℕ) (one : Range) : Type 0 where
-    of : OfValue (length text) root (path ++ (index i ∷ [])) one
+    of : IsOfPiece (length text) root (λ p. p.of_value) (path ++ (index i ∷ [])) one
     before : Tree
     leads : tree_at root path ≡ Some before
     among : OfArray text before i of.tree
@@ -116,28 +73,23 @@ module _ (text : List ℕ) (root : Branches) (spaced : HoldsIn (ElementsSpaced t
     from : IsRest text at.here.behind
     place : one.1 ≡ length text - length at.here.behind
 
-  -- where one stands that was reached
-  element_at : (path : List PathStep) (i : ℕ) (one : Range) (of : OfValue (length text) root (path ++ (index i ∷ [])) one) (before : Tree) → tree_at root path ≡ Some before → (among : OfArray text before i of.tree)
-      → IsReached among.spaced.inside of.tree (get_tree (suc i) among.trees) among.spaced.end → Element path i one
-  element_at path i one of before leads among at =
-      let same : of.spot ≡ piece (skip_blank at.before) at.here.behind = same_Some of.spot (piece (skip_blank at.before) at.here.behind) (sym of.has ∙ at.here.value) in
-      record {
-        of = of;
-        before = before;
-        leads = leads;
-        among = among;
-        at = at;
-        from = rest_on (rest_on among.spaced.from (rest_dropped 1 (91 ∷ among.spaced.inside))) (rest_on at.from at.here.left);
-        place = range_ends (length text) of.spot one (length at.here.behind) of.same (ap (λ (p : Piece). p.1) same);
-      }
-
   -- each one with a range
   element_of : (path : List PathStep) (i : ℕ) (one : Range) → element ranges path i ≡ Some one → Element path i one
   element_of path i one is =
       let of = of_value (length text) root (path ++ (index i ∷ [])) one is in
       let comes = at_from root path i of.tree of.leads in
       let among = of_array text comes.before of.tree i of.spot (holds_along root spaced path comes.before comes.leads) comes.from of.has in
-      element_at path i one of comes.before comes.leads among (reached among.spaced.inside among.spaced.end among.trees i of.tree among.spaced.are among.got)
+      let at = reached among.spaced.inside among.spaced.end among.trees i of.tree among.spaced.are among.got in
+      let same : of.spot ≡ piece (skip_blank at.before) at.here.behind = same_Some of.spot (piece (skip_blank at.before) at.here.behind) (sym of.has ∙ at.here.value) in
+      record {
+        of = of;
+        before = comes.before;
+        leads = comes.leads;
+        among = among;
+        at = at;
+        from = rest_on (rest_on among.spaced.from (rest_dropped 1 (91 ∷ among.spaced.inside))) (rest_on at.from at.here.left);
+        place = range_ends (length text) of.spot one (length at.here.behind) of.same (ap (λ (p : Piece). p.1) same);
+      }
 
   -- what stands right after it
   behind_is : (path : List PathStep) (i : ℕ) (one : Range) (behind : List ℕ) (e : Element path i one) → IsFrom text one.1 behind → after_element 93 behind ≡ Some e.at.here.rest
@@ -148,7 +100,7 @@ module _ (text : List ℕ) (root : Branches) (spaced : HoldsIn (ElementsSpaced t
   rest_from path i one e = rest_on e.from (rest_element 93 e.at.here.behind e.at.here.rest e.at.here.after)
 
   -- an element begins where the text from its place on does
-  begins_from : (path : List PathStep) (i : ℕ) (one : Range) (start behind : List ℕ) → OfValue (length text) root (path ++ (index i ∷ [])) one → (u : Tree) → tree_at root (path ++ (index i ∷ [])) ≡ Some u
+  begins_from : (path : List PathStep) (i : ℕ) (one : Range) (start behind : List ℕ) → IsOfPiece (length text) root (λ p. p.of_value) (path ++ (index i ∷ [])) one → (u : Tree) → tree_at root (path ++ (index i ∷ [])) ≡ Some u
       → (pieces_of u).of_value ≡ Some (piece start behind) → IsRest text start → IsFrom text one.0 start
   begins_from path i one start behind of u leads has from =
       let tree_same : of.tree ≡ u = same_Some of.tree u (sym of.leads ∙ leads) in
@@ -166,8 +118,11 @@ module _ (text : List ℕ) (root : Branches) (spaced : HoldsIn (ElementsSpaced t
 
   -- the array's own piece
   array_spot : (path : List PathStep) (i : ℕ) (whole one : Range) (e : Element path i one) → ranges.of_value path ≡ Some whole → range_of (length text) e.among.spot ≡ whole
-  array_spot path i whole one e is =
-      same_Some (range_of (length text) e.among.spot) whole (sym (ap (option_and_then (λ t. option_map (range_of (length text)) (pieces_of t).of_value)) (array_at path i one e)) ∙ is)
+  array_spot path i whole one e is = search rules
+
+  -- what follows an element, where another one does
+  follows_some : (rest end : List ℕ) (o : Option Tree) (u : Tree) → o ≡ Some u → Follows rest o end → (behind : List ℕ) × ((pieces_of u).of_value ≡ Some (piece (skip_blank rest) behind))
+  follows_some rest end o u is follows = subst (λ (p : Option Tree). Follows rest p end) is follows
 
   -- the first element
   first_stands : (path : List PathStep) (whole one : Range) (start : List ℕ) → ranges.of_value path ≡ Some whole → element ranges path 0 ≡ Some one → IsFrom text whole.0 start
@@ -176,16 +131,12 @@ module _ (text : List ℕ) (root : Branches) (spaced : HoldsIn (ElementsSpaced t
       let e = element_of path 0 one is_one in
       let spaced = e.among.spaced in
       let place : whole.0 ≡ length text - length (91 ∷ spaced.inside) = range_begins (length text) e.among.spot whole (length (91 ∷ spaced.inside)) (array_spot path 0 whole one e is_whole) spaced.begins in
-      let begins = first_begins spaced.inside spaced.end e.among.trees e.of.tree spaced.are e.among.got in
+      let begins = follows_some spaced.inside spaced.end _ e.of.tree e.among.got (follows spaced.inside spaced.end e.among.trees spaced.are) in
       let inside_from : IsRest text spaced.inside = rest_on spaced.from (rest_dropped 1 (91 ∷ spaced.inside)) in (
         spaced.inside,
         place_rest text (91 ∷ spaced.inside) start whole.0 spaced.from place from,
         begins_from path 0 one (skip_blank spaced.inside) begins.0 e.of e.of.tree e.of.leads begins.1 (rest_on inside_from (rest_blank spaced.inside)),
       )
-
-  -- what follows an element, where another one does
-  follows_some : (rest end : List ℕ) (o : Option Tree) (u : Tree) → o ≡ Some u → Follows rest o end → (behind : List ℕ) × ((pieces_of u).of_value ≡ Some (piece (skip_blank rest) behind))
-  follows_some rest end o u is follows = subst (λ (p : Option Tree). Follows rest p end) is follows
 
   -- the next element
   next_stands : (path : List PathStep) (i : ℕ) (one other : Range) (behind : List ℕ) → element ranges path i ≡ Some one → element ranges path (suc i) ≡ Some other → IsFrom text one.1 behind
@@ -202,8 +153,7 @@ module _ (text : List ℕ) (root : Branches) (spaced : HoldsIn (ElementsSpaced t
 
   -- where no range follows, no element does
   follows_none : (rest end : List ℕ) (o : Option Tree) → option_and_then (λ t. option_map (range_of (length text)) (pieces_of t).of_value) o ≡ None → Follows rest o end → rest ≡ end
-  follows_none rest end None none follows = follows
-  follows_none rest end (Some u) none follows = absurd (none-some _ (sym none ∙ ap (option_map (range_of (length text))) follows.1))
+  follows_none rest end o none follows = search rules
 
   -- the last element
   last_stands : (path : List PathStep) (i : ℕ) (whole one : Range) (behind : List ℕ) → ranges.of_value path ≡ Some whole → element ranges path i ≡ Some one → element ranges path (suc i) ≡ None
@@ -225,7 +175,7 @@ module _ (text : List ℕ) (root : Branches) (spaced : HoldsIn (ElementsSpaced t
       )
 
   -- an array without elements
-  none_stands : (path : List PathStep) (whole : Range) (inside : List ℕ) → ranges.of_value path ≡ Some whole → element ranges path 0 ≡ None → IsFrom text whole.0 (91 ∷ inside)
+  pub none_stands : (path : List PathStep) (whole : Range) (inside : List ℕ) → ranges.of_value path ≡ Some whole → element ranges path 0 ≡ None → IsFrom text whole.0 (91 ∷ inside)
       → (first (skip_blank inside) ≡ 93) × IsFrom text whole.1 (drop 1 (skip_blank inside))
   none_stands path whole inside is_whole none from =
       let of = of_value (length text) root path whole is_whole in
@@ -245,17 +195,6 @@ module _ (text : List ℕ) (root : Branches) (spaced : HoldsIn (ElementsSpaced t
         subst (λ (n : ℕ). IsFrom text n after) (sym (range_ends (length text) of.spot whole (length after) of.same ends)) (from_rest text after after_from),
       )
 
--- ---- walks
-
-module _ (text rest : List ℕ) (walk : Walk) (walks : Walks text walk rest) where
-  -- the elements of its arrays are spaced
-  walk_spaced : HoldsIn (ElementsSpaced text) walk.root
-  walk_spaced = walk_holds (ElementsSpaced text) (spaced_kept text) text (pair_value_spaced text) walk rest walks
-
-  -- so they stand in the text of any walk
-  pub elements_stand : ElementsStand text (ranges_of (length text) walk.root)
-  elements_stand = record { first_one = first_stands text walk.root walk_spaced; next_one = next_stands text walk.root walk_spaced; last_one = last_stands text walk.root walk_spaced }
-
-  -- and arrays without elements end so
-  pub empty_arrays_end : EmptyArraysEnd text (ranges_of (length text) walk.root)
-  empty_arrays_end = none_stands text walk.root walk_spaced
+  -- so elements stand in each array
+  pub elements_stand : ElementsStand text ranges
+  elements_stand = record { first_one = first_stands; next_one = next_stands; last_one = last_stands }

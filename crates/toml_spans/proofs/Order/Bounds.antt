@@ -1,5 +1,5 @@
 -- The pieces of a key that is read of a text lie between its beginning and the rest.
-use Rattle.std.proofs.Common.{◌≡◌, ℕ, zero, suc, ◌≤◌, ◌==◌, List, [], ◌∷◌, ◌++◌, length, drop, Some, None, ap, arith}
+use Rattle.std.proofs.Common.{◌≡◌, ℕ, zero, suc, ◌≤◌, ◌==◌, List, [], ◌∷◌, ◌++◌, length, drop, Some, None, ap, arith, rules}
 use Rattle.std.specs.List.{AllByRecursion}
 use Rattle.toml_parser.specs.Lexical.{first, skip_ws}
 use Rattle.toml_spans.proofs.Elements.{all_joined, all_weaker}
@@ -7,8 +7,9 @@ use Rattle.toml_spans.specs.Document.{header_parts}
 use Rattle.toml_spans.specs.Entry.{Piece, piece, pieces_of, Tree}
 use Rattle.toml_spans.specs.Key.{Part, Parts, parts, parts_after}
 use Rattle.toml_spans.specs.Value.{parts_equals}
-use Rattle.toml_spans.proofs.Found.{Found, found_if, found_map, found_none, found_some, found_then, found_weaker}
-use Rattle.toml_spans.proofs.Order.Rests.{after_byte_leaves, drop_within, simple_key_leaves, skip_ws_within}
+use Rattle.toml_spans.proofs.Found.{Found, found_any, found_if, found_map, found_none, found_same, found_some, found_then, found_weaker}
+use Rattle.toml_spans.proofs.Trees.Rests.{rest_byte, rest_dropped, rest_on, rest_part, rest_within, rest_ws}
+use Rattle.toml.specs.Parse.{after_byte}
 
 -- ---- within
 
@@ -33,10 +34,7 @@ within_wider high low higher lower up down p within = record { begins = omega (a
 
 -- the pieces of a tree do
 pub pieces_wider : (high low higher lower : ℕ) → high ≤ higher → lower ≤ low → (t : Tree) → PiecesWithin high low t → PiecesWithin higher lower t
-pieces_wider high low higher lower up down t within = record {
-  of_key = found_weaker within.of_key (within_wider high low higher lower up down);
-  of_value = found_weaker within.of_value (within_wider high low higher lower up down);
-}
+pieces_wider high low higher lower up down t within = search rules
 
 -- and those of a key
 pub parts_wider : (high low higher lower : ℕ) → high ≤ higher → lower ≤ low → (ps : Parts) → PartsWithin high low ps → PartsWithin higher lower ps
@@ -54,14 +52,17 @@ parts_read : (n high : ℕ) (path : List Part) (text : List ℕ) → length text
 unfolding parts_after
 parts_read zero high path text within before = found_none
 parts_read (suc n) high path text within before =
-    found_then _ (simple_key_leaves text) (λ read shorter.
+    found_same _ (λ read is.
     let part : Part = (read.0, piece text read.1) in
     let rest = skip_ws read.1 in
-    let less : length rest ≤ length read.1 = skip_ws_within read.1 in
     let next = skip_ws (drop 1 rest) in
-    let still_less : length next ≤ length rest = omega (arith, skip_ws_within (drop 1 rest), drop_within 1 rest) in
-    let here : (low : ℕ) → low ≤ length read.1 → Within high low part.1 = λ low down. record { begins = within; turns = shorter; ends = down } in
-    let earlier : (low : ℕ) → low ≤ length text → AllByRecursion (λ part. Within high low part.1) path = λ low down. all_weaker _ _ (λ part. within_wider high (length text) high low (omega arith) down part.1) path before in
+    let shorter : length read.1 ≤ length text = rest_within (rest_part text read.1 read.0 is) in
+    let less : length rest ≤ length read.1 = rest_within (rest_ws read.1) in
+    let still_less : length next ≤ length rest = rest_within (rest_on (rest_dropped 1 rest) (rest_ws (drop 1 rest))) in
+    let here : (low : ℕ) → low ≤ length read.1 → Within high low part.1 =
+    λ low down. record { begins = within; turns = shorter; ends = down } in
+    let earlier : (low : ℕ) → low ≤ length text → AllByRecursion (λ part. Within high low part.1) path =
+    λ low down. all_weaker _ _ (λ part. within_wider high (length text) high low (omega arith) down part.1) path before in
     found_if (first rest == 46)
     (found_weaker (parts_read n high (path ++ part ∷ []) next (omega (arith, within, shorter, less, still_less))
     (all_joined _ path (part ∷ []) (earlier (length next) (omega (arith, shorter, less, still_less))) (here (length next) (omega (arith, less, still_less)), tt)))
@@ -69,20 +70,22 @@ parts_read (suc n) high path text within before =
     (found_some ((path, part), rest) ((earlier (length rest) (omega (arith, shorter, less)), here (length rest) less), omega (arith, shorter, less))))
 
 -- a key
-pub key_read : (text : List ℕ) → Found (parts text) (λ r. PartsWithin (length text) (length r.1) r.0 × (length r.1 ≤ length text))
+key_read : (text : List ℕ) → Found (parts text) (λ r. PartsWithin (length text) (length r.1) r.0 × (length r.1 ≤ length text))
 key_read text = parts_read 80 (length text) [] text (omega arith) tt
 
 -- a key and `=`
-pub key_equals_read : (text : List ℕ) → Found (parts_equals text) (λ r. PartsWithin (length text) (length r.1) r.0 × (length r.1 ≤ length text))
+pub key_equals_read : (text : List ℕ) → Found (parts_equals text) (λ r. PartsWithin (length text) (length r.1) r.0)
 unfolding parts_equals
 key_equals_read text =
-    found_then _ (key_read text) (λ k read. found_map _ (after_byte_leaves 61 k.1) (λ rest shorter.
-    let less : length (skip_ws rest) ≤ length k.1 = omega (arith, shorter, skip_ws_within rest) in
-    (parts_wider (length text) (length k.1) (length text) (length (skip_ws rest)) (omega arith) less k.0 read.0, omega (arith, less, read.1))))
+    found_then _ (key_read text) (λ k read. found_map _ (found_any {o = after_byte 61 k.1} (λ rest is. is)) (λ rest is.
+    parts_wider (length text) (length k.1) (length text) (length (skip_ws rest)) (omega arith)
+    (rest_within (rest_on (rest_byte 61 k.1 rest is) (rest_ws rest))) k.0 read.0))
 
 -- the last part of a header's key
 pub header_read : (text : List ℕ) → Found (header_parts text) (λ r. Within (length text) (length r.1) r.0.1.1 × (length r.1 ≤ length text))
 unfolding header_parts
 header_read text =
-    found_then _ (key_read (skip_ws text)) (λ k read. found_map _ (after_byte_leaves 93 k.1) (λ rest shorter.
-    (within_wider (length (skip_ws text)) (length k.1) (length text) (length rest) (skip_ws_within text) shorter k.0.1.1 read.0.1, omega (arith, shorter, read.1, skip_ws_within text))))
+    found_then _ (key_read (skip_ws text)) (λ k read. found_map _ (found_any {o = after_byte 93 k.1} (λ rest is. is)) (λ rest is.
+    let blank = rest_within (rest_ws text) in
+    let shorter = rest_within (rest_byte 93 k.1 rest is) in
+    (within_wider (length (skip_ws text)) (length k.1) (length text) (length rest) blank shorter k.0.1.1 read.0.1, omega (arith, shorter, read.1, blank))))

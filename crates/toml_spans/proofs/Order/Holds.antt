@@ -1,12 +1,12 @@
 -- What holds of each tree of a document, and what still does after a change.
-use Rattle.std.proofs.Common.{◌≡◌, ◌⊎◌, ℕ, zero, suc, List, [], ◌∷◌, Option, Some, Ordering, Less, Equal, Greater, nat_cmp, refl, subst, inl, inr}
+use Rattle.std.proofs.Common.{true, false, ◌≡◌, ◌⊎◌, ℕ, zero, suc, List, [], ◌∷◌, None, Some, Ordering, nat_cmp, refl, subst, inl, inr, rules}
 use Rattle.std.proofs.lemmas.Bool.{cases_Bool}
 use Rattle.std.proofs.lemmas.Option.{none-some, option_and_then_some, same_Some}
 use Rattle.std.specs.Cmp.Lexicographic.{slice_cmp}
 use Rattle.std.specs.Ordering.{match_ordering}
 use Rattle.toml.specs.Data.{same_key}
-use Rattle.toml.specs.Tables.{Origin}
-use Rattle.toml_spans.specs.Entry.{array, branch, Branches, elements, get_branch, get_tree, inline, insert_branch, no_branches, no_trees, Piece, push_tree, replace_branch, scalar, table, tables, Tree, tree, tree_at, tree_below, tree_from, Trees}
+use Rattle.toml.specs.Tables.{header}
+use Rattle.toml_spans.specs.Entry.{array, branch, Branches, elements, get_branch, get_tree, inline, insert_branch, no_branches, no_trees, Piece, pieces_of, push_tree, replace_branch, scalar, table, tables, Tree, tree, tree_at, tree_below, tree_from, Trees}
 use Rattle.toml_spans.specs.Step.{index, key, PathStep}
 
 -- of a tree, and of each one below it
@@ -21,6 +21,14 @@ pub record HoldsIn (P : Tree → Type 0) (bs : Branches) : Type 0 where
 pub record HoldsAmong (P : Tree → Type 0) (ts : Trees) : Type 0 where
   pub each : (i : ℕ) (t : Tree) → get_tree i ts ≡ Some t → HoldsBelow P t
 
+-- of all that stands right below a tree
+abbrev pub HoldsUnder : (Tree → Type 0) → Tree → Type 0
+HoldsUnder P (scalar k v) = Unit {0}
+HoldsUnder P (array k v ts) = HoldsAmong P ts
+HoldsUnder P (inline k v bs) = HoldsIn P bs
+HoldsUnder P (table k o bs) = HoldsIn P bs
+HoldsUnder P (tables k done last bs) = HoldsAmong P (elements done last bs)
+
 -- an element after others
 pub get_pushed : (i : ℕ) (ts : Trees) (u x : Tree) → get_tree i (push_tree ts u) ≡ Some x → (get_tree i ts ≡ Some x) ⊎ (u ≡ x)
 get_pushed zero no_trees u x is = inr (same_Some u x is)
@@ -28,50 +36,44 @@ get_pushed (suc i) no_trees u x is = absurd (none-some x is)
 get_pushed zero (tree t ts) u x is = inl is
 get_pushed (suc i) (tree t ts) u x is = get_pushed i ts u x is
 
+-- where none before has a value, none of an array of tables has
+pub no_values_more : (done : Trees) (last : Piece) (bs : Branches) → ((i : ℕ) (x : Tree) → get_tree i done ≡ Some x → (pieces_of x).of_value ≡ None)
+    → (i : ℕ) (x : Tree) → get_tree i (elements done last bs) ≡ Some x → (pieces_of x).of_value ≡ None
+no_values_more done last bs none i x is = elim (get_pushed i done (table last header bs) x is) [
+  | inl old ↦ none i x old
+  | inr new ↦ rw (← new) refl
+]
+
 -- one of those before it
 pub get_before : (i : ℕ) (ts : Trees) (u x : Tree) → get_tree i ts ≡ Some x → get_tree i (push_tree ts u) ≡ Some x
 get_before i no_trees u x is = absurd (none-some x is)
 get_before zero (tree t ts) u x is = is
 get_before (suc i) (tree t ts) u x is = get_before i ts u x is
 
--- where each one is of a kind, so is the last
-pub last_of_each : (P : Tree → Type 0) (ts : Trees) (u : Tree) → ((i : ℕ) (x : Tree) → get_tree i (push_tree ts u) ≡ Some x → P x) → P u
-last_of_each P no_trees u each = each zero u refl
-last_of_each P (tree t ts) u each = last_of_each P ts u (λ i x is. each (suc i) x is)
-
 -- one of three, by how two keys compare
 by_order : {A : Type 0} (P : A → Type 0) (o : Ordering) (x y z : A) → P x → P y → P z → P (match_ordering o x y z)
-by_order P Less x y z less tie more = less
-by_order P Equal x y z less tie more = tie
-by_order P Greater x y z less tie more = more
+by_order P o x y z less tie more = search rules
 
 -- what is found at a key is in front, or after
-at_front : (m l : List ℕ) (t x : Tree) (bs : Branches) → get_branch m (branch l t bs) ≡ Some x → (t ≡ x) ⊎ (get_branch m bs ≡ Some x)
-at_front m l t x bs is = elim (cases_Bool (same_key m l)) [
-  | inl same ↦ inl (same_Some t x (rw same at is))
-  | inr other ↦ inr (rw other at is)
-]
+by_key : (m l : List ℕ) (t x : Tree) (bs : Branches) {C : Type 0} → get_branch m (branch l t bs) ≡ Some x
+    → (same_key m l ≡ true → t ≡ x → C) → (same_key m l ≡ false → get_branch m bs ≡ Some x → C) → C
+by_key m l t x bs is here there = search rules
 
 -- where the branches after the first are others, what is found there was found there, or is of them
 after_front : (m l : List ℕ) (u x : Tree) (new bs : Branches) (N : Type 0) → (get_branch m new ≡ Some x → N ⊎ (get_branch m bs ≡ Some x))
     → get_branch m (branch l u new) ≡ Some x → N ⊎ (get_branch m (branch l u bs) ≡ Some x)
-after_front m l u x new bs N on is = elim (cases_Bool (same_key m l)) [
-  | inl same ↦ inr (rw same (rw same at is))
-  | inr other ↦ rw other (on (rw other at is))
-]
+after_front m l u x new bs N on is = by_key m l u x new is (λ same here. inr (rw (same, here) refl)) (λ other there. rw other (on there))
 
 -- where the first tree is another, what is found is that, or was there
 instead : (m l : List ℕ) (t u x : Tree) (bs : Branches) → get_branch m (branch l t bs) ≡ Some x → (t ≡ x) ⊎ (get_branch m (branch l u bs) ≡ Some x)
-instead m l t u x bs is = elim (cases_Bool (same_key m l)) [
-  | inl same ↦ inl (same_Some t x (rw same at is))
-  | inr other ↦ inr (rw other (rw other at is))
-]
+instead m l t u x bs is = by_key m l t x bs is (λ _ here. inl here) (λ other there. inr (rw other there))
 
 -- what is found once a tree is inserted is that, or was there
 inserted : (k m : List ℕ) (t x : Tree) (bs : Branches) → get_branch m (insert_branch k t bs) ≡ Some x → (t ≡ x) ⊎ (get_branch m bs ≡ Some x)
-inserted k m t x no_branches = at_front m k t x no_branches
-inserted k m t x (branch l u bs) = by_order (λ (new : Branches). get_branch m new ≡ Some x → (t ≡ x) ⊎ (get_branch m (branch l u bs) ≡ Some x)) (slice_cmp nat_cmp k l) _ _ _
-    (at_front m k t x (branch l u bs)) (instead m l t u x bs) (after_front m l u x (insert_branch k t bs) bs (t ≡ x) (inserted k m t x bs))
+inserted k m t x no_branches is = by_key m k t x no_branches is (λ _ here. inl here) (λ _ there. inr there)
+inserted k m t x (branch l u bs) is = by_order (λ (new : Branches). get_branch m new ≡ Some x → (t ≡ x) ⊎ (get_branch m (branch l u bs) ≡ Some x)) (slice_cmp nat_cmp k l) _ _ _
+    (λ found. by_key m k t x (branch l u bs) found (λ _ here. inl here) (λ _ there. inr there)) (instead m l t u x bs)
+    (after_front m l u x (insert_branch k t bs) bs (t ≡ x) (inserted k m t x bs)) is
 
 -- and once one is replaced
 replaced : (k m : List ℕ) (t x : Tree) (bs : Branches) → get_branch m (replace_branch k t bs) ≡ Some x → (t ≡ x) ⊎ (get_branch m bs ≡ Some x)
@@ -120,7 +122,8 @@ module _ {P : Tree → Type 0} where
   holds_before ts u holds = record { each = λ i x is. holds.each i x (get_before i ts u x is) }
 
   pub holds_last : (ts : Trees) (u : Tree) → HoldsAmong P (push_tree ts u) → HoldsBelow P u
-  holds_last ts u holds = last_of_each (HoldsBelow P) ts u holds.each
+  holds_last no_trees u holds = holds.each zero u refl
+  holds_last (tree t ts) u holds = holds_last ts u (record { each = λ i x is. holds.each (suc i) x is })
 
   -- of a tree in its place
   pub holds_inserted : (k : List ℕ) (t : Tree) (bs : Branches) → HoldsIn P bs → HoldsBelow P t → HoldsIn P (insert_branch k t bs)
@@ -129,50 +132,20 @@ module _ {P : Tree → Type 0} where
   pub holds_replaced : (k : List ℕ) (t : Tree) (bs : Branches) → HoldsIn P bs → HoldsBelow P t → HoldsIn P (replace_branch k t bs)
   holds_replaced k t bs holds here = record { each = λ m x is. elim (replaced k m t x bs is) [ inl new ↦ subst (HoldsBelow P) new here | inr old ↦ holds.each m x old ] }
 
-  -- of a scalar
-  scalar_steps : (k : Option Piece) (v : Piece) (step : PathStep) (u : Tree) → tree_from (scalar k v) step ≡ Some u → HoldsBelow P u
-  scalar_steps k v step u is = absurd (none-some u is)
+  under_from : (t : Tree) → HoldsUnder P t → (step : PathStep) (u : Tree) → tree_from t step ≡ Some u → HoldsBelow P u
+  under_from t holds step u is = search rules
 
-  pub holds_scalar : (k : Option Piece) (v : Piece) → P (scalar k v) → HoldsBelow P (scalar k v)
-  holds_scalar k v here = holds_steps (scalar k v) here (scalar_steps k v)
+  -- of a tree and all that stands right below it
+  pub holds_tree : (t : Tree) → P t → HoldsUnder P t → HoldsBelow P t
+  holds_tree t here holds = holds_steps t here (under_from t holds)
 
-  -- of an array
-  array_steps : (k : Option Piece) (v : Piece) (ts : Trees) → HoldsAmong P ts → (step : PathStep) (u : Tree) → tree_from (array k v ts) step ≡ Some u → HoldsBelow P u
-  array_steps k v ts holds (key text) u is = absurd (none-some u is)
-  array_steps k v ts holds (index i) u is = holds.each i u is
-
-  pub holds_array : (k : Option Piece) (v : Piece) (ts : Trees) → P (array k v ts) → HoldsAmong P ts → HoldsBelow P (array k v ts)
-  holds_array k v ts here holds = holds_steps (array k v ts) here (array_steps k v ts holds)
-
-  -- of an inline table
-  inline_steps : (k : Option Piece) (v : Piece) (bs : Branches) → HoldsIn P bs → (step : PathStep) (u : Tree) → tree_from (inline k v bs) step ≡ Some u → HoldsBelow P u
-  inline_steps k v bs holds (key text) u is = holds.each text u is
-  inline_steps k v bs holds (index i) u is = absurd (none-some u is)
-
-  pub holds_inline : (k : Option Piece) (v : Piece) (bs : Branches) → P (inline k v bs) → HoldsIn P bs → HoldsBelow P (inline k v bs)
-  holds_inline k v bs here holds = holds_steps (inline k v bs) here (inline_steps k v bs holds)
-
-  -- of a table
-  table_steps : (k : Piece) (o : Origin) (bs : Branches) → HoldsIn P bs → (step : PathStep) (u : Tree) → tree_from (table k o bs) step ≡ Some u → HoldsBelow P u
-  table_steps k o bs holds (key text) u is = holds.each text u is
-  table_steps k o bs holds (index i) u is = absurd (none-some u is)
-
-  pub holds_table : (k : Piece) (o : Origin) (bs : Branches) → P (table k o bs) → HoldsIn P bs → HoldsBelow P (table k o bs)
-  holds_table k o bs here holds = holds_steps (table k o bs) here (table_steps k o bs holds)
-
-  pub holds_inside : (k : Piece) (o : Origin) (bs : Branches) → HoldsBelow P (table k o bs) → HoldsIn P bs
-  holds_inside k o bs holds = record { each = λ text u is. holds_from (key text) is holds }
-
-  -- of tables that double brackets made
-  tables_steps : (k : Piece) (done : Trees) (last : Piece) (bs : Branches) → HoldsAmong P (elements done last bs) → (step : PathStep) (u : Tree) → tree_from (tables k done last bs) step ≡ Some u → HoldsBelow P u
-  tables_steps k done last bs holds (key text) u is = absurd (none-some u is)
-  tables_steps k done last bs holds (index i) u is = holds.each i u is
-
-  pub holds_tables : (k : Piece) (done : Trees) (last : Piece) (bs : Branches) → P (tables k done last bs) → HoldsAmong P (elements done last bs) → HoldsBelow P (tables k done last bs)
-  holds_tables k done last bs here holds = holds_steps (tables k done last bs) here (tables_steps k done last bs holds)
-
-  pub holds_of_elements : (k : Piece) (done : Trees) (last : Piece) (bs : Branches) → HoldsBelow P (tables k done last bs) → HoldsAmong P (elements done last bs)
-  holds_of_elements k done last bs holds = record { each = λ i u is. holds_from (index i) is holds }
+  -- of what stands right below it
+  pub holds_under : (t : Tree) → HoldsBelow P t → HoldsUnder P t
+  holds_under (scalar k v) holds = tt
+  holds_under (array k v ts) holds = record { each = λ i u is. holds_from (index i) is holds }
+  holds_under (inline k v bs) holds = record { each = λ text u is. holds_from (key text) is holds }
+  holds_under (table k o bs) holds = record { each = λ text u is. holds_from (key text) is holds }
+  holds_under (tables k done last bs) holds = record { each = λ i u is. holds_from (index i) is holds }
 
   -- of what follows from it
   module _ {Q : Tree → Type 0} (on : (t : Tree) → P t → Q t) where

@@ -1,5 +1,5 @@
 -- How the pieces of trees stand to one another: what is within a value, what comes in turn, and what is apart.
-use Rattle.std.proofs.Common.{◌≡◌, ◌⊎◌, ℕ, zero, suc, ◌<◌, ◌≤◌, List, [], ◌∷◌, Some, None, subst, inl, inr, arith}
+use Rattle.std.proofs.Common.{◌≡◌, ◌⊎◌, ℕ, zero, suc, ◌<◌, ◌≤◌, List, [], ◌∷◌, Some, None, subst, inl, inr, arith, rules}
 use Rattle.std.proofs.lemmas.Option.{none-some, option_and_then_some, same_Some}
 use Rattle.toml_spans.specs.Entry.{array, Branches, get_branch, get_tree, inline, no_trees, Piece, pieces_of, push_tree, scalar, table, tables, Tree, tree, tree_at, tree_below, tree_from, Trees}
 use Rattle.toml_spans.specs.Step.{key, PathStep}
@@ -39,13 +39,10 @@ pub record ValueFrom (t : Tree) (v : Piece) : Type 0 where
   pub from : tree_from t step ≡ Some next
   pub below : ValueBelow next v
 
-own_or_from : (t : Tree) (v : Piece) (path : List PathStep) (value : Tree) → tree_below path t ≡ Some value → (pieces_of value).of_value ≡ Some v → ((pieces_of t).of_value ≡ Some v) ⊎ ValueFrom t v
+pub own_or_from : (t : Tree) (v : Piece) (path : List PathStep) (value : Tree) → tree_below path t ≡ Some value → (pieces_of value).of_value ≡ Some v → ((pieces_of t).of_value ≡ Some v) ⊎ ValueFrom t v
 own_or_from t v [] value leads is = inl (rw (same_Some t value leads) is)
 own_or_from t v (step ∷ path) value leads is = inr (option_and_then_some (tree_below path) (tree_from t step) value leads
     (λ next from below. record { step = step; next = next; from = from; below = record { path = path; value = value; leads = below; is = is } }))
-
-pub value_own_or_from : (t : Tree) (v : Piece) → ValueBelow t v → ((pieces_of t).of_value ≡ Some v) ⊎ ValueFrom t v
-value_own_or_from t v below = own_or_from t v below.path below.value below.leads below.is
 
 -- values below a tree lie where its pieces do
 pub value_lies : (a b : ℕ) (t : Tree) (v : Piece) → HoldsBelow (PiecesWithin a b) t → ValueBelow t v → Within a b v
@@ -110,12 +107,7 @@ pub record IsSound (n : ℕ) (t : Tree) : Type 0 where
   pub in_turn : InTurn n t
 
 pub in_turn_later : (m n : ℕ) → m ≤ n → (t : Tree) → InTurn n t → InTurn m t
-in_turn_later m n later (scalar k v) turn = turn
-in_turn_later m n later (array k v ts) turn = turn
-in_turn_later m n later (inline k v bs) turn = turn
-in_turn_later m n later (table k o bs) turn = turn
-in_turn_later m n later (tables k done last bs) turn =
-    record { no_values = turn.no_values; order = turn.order; before = turn.before; runs = turn.runs; ends = omega (arith, later, turn.ends) }
+in_turn_later m n later t turn = search (rules, arith)
 
 pub sound_later : (m n : ℕ) → m ≤ n → (t : Tree) → IsSound n t → IsSound m t
 sound_later m n later t sound = record { encloses = sound.encloses; in_turn = in_turn_later m n later t sound.in_turn }

@@ -1,22 +1,24 @@
 -- How the pieces of a document stand to one another.
-use Rattle.std.proofs.Common.{◌≡◌, ℕ, ◌≤◌, List, length, drop, Option, Some, sym, ◌∙◌, inl, inr, arith}
+use Rattle.std.proofs.Common.{◌≡◌, ℕ, ◌≤◌, List, length, drop, Some, refl, sym, ◌∙◌, inl, inr, arith}
 use Rattle.toml_spans.proofs.Elements.{all_always}
 use Rattle.toml.proofs.Blanks.{skip_within}
 use Rattle.toml.specs.Parse.{after_byte, ends_line}
 use Rattle.toml_parser.specs.Lexical.{skip_blank, skip_ws}
-use Rattle.toml.specs.Tables.{dotted, implicit}
+use Rattle.toml.specs.Tables.{implicit}
 use Rattle.toml_spans.specs.Document.{begin, go_on, header_parts, Statement, statement, statement_line, Walk, walk_on, Walks}
 use Rattle.toml_spans.specs.Entry.{after_key, Branches, Piece, Tree}
 use Rattle.toml_spans.specs.Key.{Parts}
-use Rattle.toml_spans.specs.Table.{array_table, at_part, Definition, pair, put, std_table}
+use Rattle.toml_spans.specs.Table.{along, array_table, at_part, Definition, pair, put, std_table}
 use Rattle.toml_spans.specs.Value.{pair_tree, value_tree}
-use Rattle.toml_spans.proofs.Order.Bounds.{header_read, Within, within_wider}
-use Rattle.toml_spans.proofs.Order.Rests.{after_byte_leaves, drop_within}
-use Rattle.toml_spans.proofs.Found.{Found, found_any, found_if, found_map, found_none, found_some, found_then}
-use Rattle.toml_spans.proofs.Order.Changes.{along_keeps, at_part_keeps, IsKept}
+use Rattle.toml_spans.proofs.Order.Bounds.{header_read, key_equals_read, Within, within_wider}
+use Rattle.toml_spans.proofs.Found.{Found, found_any, found_if, found_map, found_none, found_same, found_some, found_then}
+use Rattle.toml_spans.proofs.Trees.Holding.{pair_value_holds}
+use Rattle.toml_spans.proofs.Trees.Rests.{rest_byte, rest_dropped, rest_itself, rest_within}
+use Rattle.toml_spans.proofs.Trees.Stands.{IsRest}
+use Rattle.toml_spans.proofs.Order.Changes.{along_keeps, at_part_keeps, IsKept, of_pair, put_keeps}
 use Rattle.toml_spans.proofs.Order.Holds.{holds_nowhere, HoldsBelow, HoldsIn}
-use Rattle.toml_spans.proofs.Order.Settled.{Apart, IsSettled, IsSound, value_lies, ValueBelow, ValueIn}
-use Rattle.toml_spans.proofs.Order.Values.{apart_grown, IsOf, nowhere, of_pair, pair_settled, sound_after, sound_kept, value_of_either, value_settled, values_kept, values_new, values_old}
+use Rattle.toml_spans.proofs.Order.Settled.{Apart, IsSettled, IsSound, settled_wider, value_lies, ValueBelow, ValueIn}
+use Rattle.toml_spans.proofs.Order.Values.{apart_grown, IsOf, nowhere, settled_held, sound_after, sound_kept, value_of_either, values_kept, values_new, values_old}
 
 -- ---- statements
 
@@ -27,19 +29,15 @@ header_no_pair t is = cc
 brackets_no_pair : (t : Tree) → array_table ≡ pair t → ⊥
 brackets_no_pair t is = cc
 
--- whatever is found
-anything : {A : Type 0} (o : Option A) → Found o (λ x. Unit {0})
-anything o = found_any (λ x is. tt)
-
 -- what holds of a pair holds of the statement that it is
 module _ (Q : Parts → List ℕ → Tree → Type 0) (s : List ℕ) (reads : Found (pair_tree (value_tree 80) s) (λ p. Q p.0.0 p.1 p.0.1)) where
   statement_pair : Found (statement s) (λ r. (t : Tree) → r.0.1 ≡ pair t → Q r.0.0 r.1 t)
   unfolding statement
   statement_pair =
       found_if _
-      (found_then _ (anything (header_parts (drop 2 s))) (λ k any. found_map _ (anything (after_byte 93 k.1)) (λ rest also t is. absurd (brackets_no_pair t is))))
+      (found_same {o = header_parts (drop 2 s)} _ (λ k _. found_map _ (found_any {o = after_byte 93 k.1} (λ rest is. is)) (λ rest _ t is. absurd (brackets_no_pair t is))))
       (found_if _
-      (found_map _ (anything (header_parts (drop 1 s))) (λ k any t is. absurd (header_no_pair t is)))
+      (found_map _ (found_any {o = header_parts (drop 1 s)} (λ k is. is)) (λ k _ t is. absurd (header_no_pair t is)))
       (found_map _ reads (λ p holds t is. of_pair (Q p.0.0 p.1) p.0.1 t is holds)))
 
   -- so it does of one that has its line to itself
@@ -53,25 +51,35 @@ pub record ReadsStatement (s : List ℕ) (e : Statement) (rest : List ℕ) : Typ
   pub value : (t : Tree) → e.1 ≡ pair t → IsSettled (length s) (length rest) t
   pub left : length rest ≤ length s
 
+-- a header does after its brackets
+header_settled : (n : ℕ) (s : List ℕ) (k : Parts) (what : Definition) (behind rest : List ℕ) → ((t : Tree) → what ≡ pair t → ⊥)
+    → Within (length (drop n s)) (length behind) k.1.1 × (length behind ≤ length (drop n s)) → IsRest behind rest → ReadsStatement s (k, what) rest
+header_settled n s k what behind rest no_pair read left =
+    let after = rest_within left in
+    let inside = rest_within (rest_dropped n s) in
+    record {
+      last = within_wider (length (drop n s)) (length behind) (length s) (length rest) inside after k.1.1 read.0;
+      value = λ t is. absurd (no_pair t is);
+      left = omega (arith, after, read.1, inside);
+    }
+
 statement_settled : (s : List ℕ) → Found (statement s) (λ r. ReadsStatement s r.0 r.1)
 unfolding statement
 statement_settled s =
     found_if _
-    (found_then _ (header_read (drop 2 s)) (λ k read. found_map _ (after_byte_leaves 93 k.1) (λ rest less. record {
-      last = within_wider (length (drop 2 s)) (length k.1) (length s) (length rest) (drop_within 2 s) less k.0.1.1 read.0;
-      value = λ t is. absurd (brackets_no_pair t is);
-      left = omega (arith, less, read.1, drop_within 2 s);
-    })))
+    (found_then _ (header_read (drop 2 s)) (λ k read. found_map _ (found_any {o = after_byte 93 k.1} (λ rest is. is))
+    (λ rest is. header_settled 2 s k.0 array_table k.1 rest brackets_no_pair read (rest_byte 93 k.1 rest is))))
     (found_if _
-    (found_map _ (header_read (drop 1 s)) (λ k read. record {
-      last = within_wider (length (drop 1 s)) (length k.1) (length s) (length k.1) (drop_within 1 s) (omega arith) k.0.1.1 read.0;
-      value = λ t is. absurd (header_no_pair t is);
-      left = omega (arith, read.1, drop_within 1 s);
-    }))
-    (found_map _ (pair_settled (value_tree 80) (value_settled 80) s) (λ p reads. record {
-      last = reads.within.1;
-      value = λ t is. of_pair (IsSettled (length s) (length p.1)) p.0.1 t is reads.settled;
-      left = reads.left;
+    (found_map _ (header_read (drop 1 s)) (λ k read. header_settled 1 s k.0 std_table k.1 k.1 header_no_pair read (rest_itself k.1)))
+    (found_map _ (pair_value_holds s _ _ _ (settled_held s) s (rest_itself s)) (λ p reads.
+    let key_left = rest_within reads.key_left in
+    let value_left = rest_within reads.value.left in
+    record {
+      last = within_wider (length s) (length reads.at) (length s) (length p.1) (omega arith) value_left p.0.0.1.1
+          ((key_equals_read s).each (p.0.0, reads.at) reads.key).1;
+      value = λ t is. of_pair (IsSettled (length s) (length p.1)) p.0.1 t is
+          (settled_wider (length reads.at) (length p.1) (length s) (length p.1) p.0.1 key_left (omega arith) reads.holds);
+      left = omega (arith, key_left, value_left);
     })))
 
 line_settled : (s : List ℕ) (e : Statement) (rest : List ℕ) → statement_line s ≡ Some (e, rest) → ReadsStatement s e rest
@@ -81,15 +89,20 @@ line_settled s e rest is = (found_then _ (statement_settled s) (λ r reads. foun
 -- ---- walks
 
 module _ (P Q : Tree → Type 0) (N F : Piece → Type 0) (kept : IsKept P Q N F) (always : (k : Piece) → N k) where
+  header_keeps : (walk : Walk) (k : Parts) (what : Definition) → F k.1.1 → ((t : Tree) → what ≡ pair t → HoldsBelow Q (after_key k.1.1 t)) → HoldsIn P walk.root
+      → Found (along implicit k.0 (at_part k.1 what) walk.root) (HoldsIn Q)
+  header_keeps walk k what fresh value holds =
+      (along_keeps P Q N F kept implicit k.0 (at_part k.1 what) (all_always (λ part. always part.1) k.0)
+      (at_part_keeps P Q N F kept (λ l _. always l) k.1 what fresh value)).each walk.root holds
+
   -- what holds of a walk's trees holds after a statement
   pub walk_on_keeps : (walk : Walk) (k : Parts) (what : Definition) → F k.1.1 → ((t : Tree) → what ≡ pair t → HoldsBelow Q (after_key k.1.1 t)) → HoldsIn P walk.root
       → Found (walk_on walk k what) (λ next. HoldsIn Q next.root)
-  walk_on_keeps walk k (pair t) fresh value holds = found_map _ ((along_keeps P Q N F kept implicit walk.section (put k t) (all_always (λ part. always part.1) walk.section)
-      (along_keeps P Q N F kept dotted k.0 (at_part k.1 (pair t)) (all_always (λ part. always part.1) k.0) (at_part_keeps P Q N F kept k.1 (pair t) (always k.1.1) fresh value))).each walk.root holds) (λ new on. on)
-  walk_on_keeps walk k std_table fresh value holds = found_map _ ((along_keeps P Q N F kept implicit k.0 (at_part k.1 std_table) (all_always (λ part. always part.1) k.0)
-      (at_part_keeps P Q N F kept k.1 std_table (always k.1.1) fresh value)).each walk.root holds) (λ new on. on)
-  walk_on_keeps walk k array_table fresh value holds = found_map _ ((along_keeps P Q N F kept implicit k.0 (at_part k.1 array_table) (all_always (λ part. always part.1) k.0)
-      (at_part_keeps P Q N F kept k.1 array_table (always k.1.1) fresh value)).each walk.root holds) (λ new on. on)
+  walk_on_keeps walk k (pair t) fresh value holds =
+      found_map _ ((along_keeps P Q N F kept implicit walk.section (put k t) (all_always (λ part. always part.1) walk.section)
+      (put_keeps P Q N F kept (λ l _. always l) k t (all_always (λ part. always part.1) k.0) fresh (value t refl))).each walk.root holds) (λ new on. on)
+  walk_on_keeps walk k std_table fresh value holds = found_map _ (header_keeps walk k std_table fresh value holds) (λ new on. on)
+  walk_on_keeps walk k array_table fresh value holds = found_map _ (header_keeps walk k array_table fresh value holds) (λ new on. on)
 
 -- all that a walk holds up to this place, counted from the text's end
 pub record RootSettled (n : ℕ) (root : Branches) : Type 0 where

@@ -1,6 +1,5 @@
 -- Two answers that are given together or not at all.
-use Rattle.std.proofs.Common.{◌≡◌, Bool, true, false, cond, Option, Some, None, option_and_then, option_map, refl, sym, ◌∙◌}
-use Rattle.std.proofs.lemmas.Option.{none-some, same_Some}
+use Rattle.std.proofs.Common.{◌≡◌, Bool, true, false, cond, Option, Some, None, option_and_then, option_map, refl, rules}
 
 -- neither is given, or both are, and this holds of them
 pub data Alike {A B : Type 0} (P : A → B → Type 0) (o : Option A) (p : Option B) : Type 0 where
@@ -22,13 +21,11 @@ module _ {A B : Type 0} {P : A → B → Type 0} {o : Option A} {p : Option B} w
 
   -- what holds of both where the first is given
   pub alike_first : Alike P o p → (x : A) → o ≡ Some x → (y : B) × (p ≡ Some y) × P x y
-  alike_first (neither none none_too) x is = absurd (none-some x (sym none ∙ is))
-  alike_first (either z y is_z is_too holds) x is = (y, is_too, rw (same_Some z x (sym is_z ∙ is)) at holds)
+  alike_first h0 x is = search rules
 
   -- and where the first isn't
   pub alike_none : Alike P o p → o ≡ None → p ≡ None
-  alike_none (neither none none_too) is = none_too
-  alike_none (either x y is_x is_too holds) is = absurd (none-some x (sym is ∙ is_x))
+  alike_none h0 is = search rules
 
 -- one of two on both sides, by one test
 pub alike_if : {A B : Type 0} {P : A → B → Type 0} (b : Bool) (o o' : Option A) (p p' : Option B)
@@ -47,3 +44,8 @@ pub alike_same_map : {X A B : Type 0} {P : A → B → Type 0} (o : Option X) (f
     → ((x : X) → o ≡ Some x → P (f x) (g x)) → Alike P (option_map f o) (option_map g o)
 alike_same_map None f g on = neither refl refl
 alike_same_map (Some x) f g on = either (f x) (g x) refl refl (on x refl)
+
+-- beside an answer, what is made of it
+pub alike_made : {A X : Type 0} {P : A → X → Type 0} (o : Option X) (f : X → A) → ((x : X) → o ≡ Some x → P (f x) x) → Alike P (option_map f o) o
+alike_made None f on = neither refl refl
+alike_made (Some x) f on = either (f x) x refl refl (on x refl)

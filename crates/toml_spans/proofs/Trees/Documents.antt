@@ -1,42 +1,30 @@
 -- A walk over the statements of a text goes as `toml` reads them, and what stands where it says is
 -- what `toml` holds.
-use Rattle.std.proofs.Common.{◌≡◌, ℕ, suc, ◌-◌, ◌<◌, ◌≤◌, false, ◌==◌, ◌&&◌, List, [], length, drop, slice_index, Some, None, refl, ap, ◌∙◌, inl, inr, ◌⊎◌, arith}
+use Rattle.std.proofs.Common.{◌≡◌, ℕ, suc, ◌-◌, ◌<◌, ◌≤◌, false, ◌==◌, ◌&&◌, List, [], ◌∷◌, ◌++◌, length, drop, slice_index, Some, None, option_map, refl, ap, ◌∙◌, inl, inr, ◌⊎◌, arith}
 use Rattle.std.proofs.lemmas.Bool.{cases_Bool, ne_eqb}
 use Rattle.std.specs.List.{AllByRecursion}
 use Rattle.toml_parser.specs.Lexical.{first, skip_blank, skip_ws}
 use Rattle.toml_parser.specs.Strings.{Key}
 use Rattle.toml.proofs.Turns.{document_none, document_some, lines_bad, lines_end, lines_more, lines_refused}
 use Rattle.toml.specs.Parse.{after_byte, ends_line, expression, header_key, line, lines, parse_document, skip_bom, val}
-use Rattle.toml.specs.Tables.{array_table as array_table_there, close, define, Definition as DefinitionThere, Document, Expression, key_value, no_nodes, Nodes, std_table as std_table_there}
+use Rattle.toml.specs.Tables.{along_header, at_key, implicit, array_table as array_table_there, close, define, Definition as DefinitionThere, Document, Expression, key_value, no_nodes, Nodes, std_table as std_table_there}
 use Rattle.toml_spans.specs.Document.{begin, go_on, header_parts, Statement, statement, statement_line, Walk, walk_on, Walks}
 use Rattle.toml_spans.specs.Key.{key_of, Parts, texts_of}
-use Rattle.toml_spans.specs.Table.{array_table, Definition, pair, std_table}
+use Rattle.toml_spans.specs.Table.{along, array_table, at_part, Definition, pair, std_table}
 use Rattle.toml_spans.specs.Value.{value_tree}
+use Rattle.toml_spans.proofs.Elements.{all_joined}
 use Rattle.toml_spans.proofs.Trees.Alike.{Alike, alike_first, alike_if, alike_map, alike_none, alike_same_map, alike_then, either, neither}
-use Rattle.toml_spans.proofs.Trees.Keys.{all_more, key_follows, key_read, texts_more}
+use Rattle.toml_spans.proofs.Trees.Keys.{key_read, read_on, ReadParts, texts_more}
 use Rattle.toml_spans.proofs.Trees.Rests.{begins_byte, byte_shorter, drop_shorter, other_byte, rest_blank, rest_byte, rest_dropped, rest_itself, rest_on, rest_within, rest_ws}
-use Rattle.toml_spans.proofs.Trees.Stands.{AreBranches, IsRest}
-use Rattle.toml_spans.proofs.Trees.Tables.{defined_grows, Defines, pair_grows, PartStands}
+use Rattle.toml_spans.proofs.Trees.Stands.{AreBranches, IsRest, NoEquals}
+use Rattle.toml_spans.proofs.Trees.Tables.{Defines, headers_grow, part_grows, PartStands, put_grows, ReadAlike}
 use Rattle.toml_spans.proofs.Trees.Values.{pair_read, value_read}
 
 -- ---- statements
 
--- what is read of the key of a header
-record ReadHeader (whole text : List ℕ) (r : Parts × List ℕ) (s : Key × List ℕ) : Type 0 where
-  key_same : s.0 ≡ key_of r.0
-  rest_same : s.1 ≡ r.1
-  before : AllByRecursion (PartStands whole) r.0.0
-  last : PartStands whole r.0.1
-  left : IsRest text r.1
-
--- and of a statement
-pub record ReadStatement (whole text : List ℕ) (r : Statement × List ℕ) (s : Expression × List ℕ) : Type 0 where
-  pub key_same : s.0.0 ≡ key_of r.0.0
-  pub rest_same : s.1 ≡ r.1
-  pub before : AllByRecursion (PartStands whole) r.0.0.0
-  pub defines : Defines whole r.0.0.1 r.0.1 s.0.1
-  pub left : IsRest text r.1
-  pub shorter : length r.1 < length text
+-- what is read of a statement
+abbrev pub ReadStatement : List ℕ → List ℕ → Statement × List ℕ → Expression × List ℕ → Type 0
+ReadStatement whole text r s = ReadAlike whole text r.0.0 r.0.1 r.1 s.0.0 s.0.1 s.1
 
 -- without a byte order mark
 rest_mark : (text : List ℕ) → IsRest text (skip_bom text)
@@ -52,82 +40,69 @@ pub record WalkStands (whole : List ℕ) (walk : Walk) (document : Document) : T
   pub section : texts_of walk.section ≡ document.1
   pub parts : AllByRecursion (PartStands whole) walk.section
 
--- one more statement
-pub walk_grows : (whole : List ℕ) (walk : Walk) (document : Document) (parts : Parts) (what : Definition) (what_there : DefinitionThere) → WalkStands whole walk document
-    → AllByRecursion (PartStands whole) parts.0 → Defines whole parts.1 what what_there → Alike (WalkStands whole) (walk_on walk parts what) (define document (key_of parts, what_there))
-unfolding define
-walk_grows whole walk document parts (pair t) (key_value d) stands before defines =
-    rw (← stands.section) (elim (pair_grows whole walk.section parts t d stands.parts before defines walk.root document.0 stands.root) [
-      | neither none none_too ↦ rw (none, none_too) (neither refl refl)
-      | either x y is is_too are ↦ rw (is, is_too) (either _ _ refl refl (record { root = are; section = refl; parts = stands.parts }))
-    ])
-walk_grows whole walk document parts std_table std_table_there stands before defines =
-    elim (defined_grows whole parts.0 parts.1 std_table std_table_there before defines walk.root document.0 stands.root) [
-      | neither none none_too ↦ rw (none, none_too) (neither refl refl)
-      | either x y is is_too are ↦ rw (is, is_too) (either _ _ refl refl (record { root = are; section = texts_more parts.0 parts.1; parts = all_more (PartStands whole) parts.0 parts.1 before defines }))
-    ]
-walk_grows whole walk document parts array_table array_table_there stands before defines =
-    elim (defined_grows whole parts.0 parts.1 array_table array_table_there before defines walk.root document.0 stands.root) [
-      | neither none none_too ↦ rw (none, none_too) (neither refl refl)
-      | either x y is is_too are ↦ rw (is, is_too) (either _ _ refl refl (record { root = are; section = texts_more parts.0 parts.1; parts = all_more (PartStands whole) parts.0 parts.1 before defines }))
-    ]
-walk_grows whole walk document parts what what_there stands before defines = absurd defines
-
 module _ (whole : List ℕ) where
+  -- a header
+  header_grows : (walk : Walk) (document : Document) (parts : Parts) (what : Definition) (what_there : DefinitionThere) → WalkStands whole walk document
+      → AllByRecursion (PartStands whole) parts.0 → Defines whole parts.1 what what_there → PartStands whole parts.1
+      → Alike (WalkStands whole) (option_map (λ root. record { root = root; section = parts.0 ++ parts.1 ∷ [] }) (along implicit parts.0 (at_part parts.1 what) walk.root))
+      (option_map (λ root. (root, texts_of parts.0 ++ parts.1.0 ∷ [])) (along_header (texts_of parts.0) (at_key parts.1.0 what_there) document.0))
+  header_grows walk document parts what what_there stands before defines last =
+      alike_map _ _ (headers_grow whole parts.0 _ _ before (part_grows whole parts.1 what what_there defines) walk.root document.0 stands.root) (λ x y _ _ are.
+      record { root = are; section = texts_more parts.0 parts.1; parts = all_joined (PartStands whole) parts.0 (parts.1 ∷ []) before (last, tt) })
+
+  -- one more statement
+  pub walk_grows : (walk : Walk) (document : Document) (parts : Parts) (what : Definition) (what_there : DefinitionThere) → WalkStands whole walk document
+      → AllByRecursion (PartStands whole) parts.0 → Defines whole parts.1 what what_there → Alike (WalkStands whole) (walk_on walk parts what) (define document (key_of parts, what_there))
+  unfolding define
+  walk_grows walk document parts (pair t) (key_value d) stands before defines =
+      rw (← stands.section) (alike_map _ _ (headers_grow whole walk.section _ _ stands.parts (put_grows whole parts t d before defines) walk.root document.0 stands.root)
+      (λ x y _ _ are. record { root = are; section = refl; parts = stands.parts }))
+  walk_grows walk document parts std_table std_table_there stands before defines = header_grows walk document parts std_table std_table_there stands before defines defines
+  walk_grows walk document parts array_table array_table_there stands before defines = header_grows walk document parts array_table array_table_there stands before defines defines
+  walk_grows walk document parts what what_there stands before defines = absurd defines
+
   -- the key of a header
-  header_read : (text : List ℕ) → IsRest whole text → Alike (ReadHeader whole text) (header_parts text) (header_key text)
+  abbrev ReadHeader : List ℕ → Parts × List ℕ → Key × List ℕ → Type 0
+  ReadHeader = ReadParts whole (λ _ behind. NoEquals behind)
+
+  header_read : (text : List ℕ) → IsRest whole text → Alike (ReadHeader text) (header_parts text) (header_key text)
   unfolding header_parts header_key
   header_read text from =
-      alike_then _ _ (key_read whole (skip_ws text) (rest_on from (rest_ws text))) (λ x y _ _ read. rw read.rest_same (alike_same_map (after_byte 93 x.1) _ _ (λ rest is. record {
-        key_same = read.key_same;
-        rest_same = refl;
-        before = read.before;
-        last = key_follows read.last (λ behind same. rw same (other_byte (first x.1) 93 61 (begins_byte 93 x.1 rest is) refl));
-        left = rest_on (rest_on (rest_ws text) read.left) (rest_byte 93 x.1 rest is);
-      })))
+      alike_then _ _ (key_read whole (skip_ws text) (rest_on from (rest_ws text))) (λ x y _ _ read. rw read.rest_same (alike_same_map (after_byte 93 x.1) _ _ (λ rest is.
+      read_on whole (rest_ws text) read (rest_byte 93 x.1 rest is) (λ behind same. rw same (other_byte (first x.1) 93 61 (begins_byte 93 x.1 rest is) refl)))))
+
+  -- a statement whose key it is
+  header_is : {text start rest : List ℕ} {r : Parts × List ℕ} {s : Key × List ℕ} {what : Definition} {what_there : DefinitionThere} → IsRest text start → ReadHeader start r s
+      → IsRest r.1 rest → length rest < length text → (PartStands whole r.0.1 → Defines whole r.0.1 what what_there)
+      → ReadAlike whole text r.0 what rest s.0 what_there rest
+  header_is from read left shorter defines = record {
+    key_same = read.key_same;
+    rest_same = refl;
+    before = read.before;
+    defines = defines read.last;
+    left = rest_on (rest_on from read.left) left;
+    shorter = shorter;
+  }
 
   -- a statement
   statement_read : (text : List ℕ) → IsRest whole text → Alike (ReadStatement whole text) (statement text) (expression text)
   unfolding statement expression
   statement_read text from =
       alike_if (first text == 91 && slice_index text 1 == 91) _ _ _ _
-      (λ _. alike_then _ _ (header_read (drop 2 text) (rest_on from (rest_dropped 2 text))) (λ x y _ _ read. rw read.rest_same (alike_same_map (after_byte 93 x.1) _ _ (λ rest is. record {
-        key_same = read.key_same;
-        rest_same = refl;
-        before = read.before;
-        defines = read.last;
-        left = rest_on (rest_on (rest_dropped 2 text) read.left) (rest_byte 93 x.1 rest is);
-        shorter = omega (arith, byte_shorter 93 x.1 rest refl is, rest_within read.left, rest_within (rest_dropped 2 text));
-      }))))
+      (λ _. alike_then _ _ (header_read (drop 2 text) (rest_on from (rest_dropped 2 text))) (λ x y _ _ read. rw read.rest_same (alike_same_map (after_byte 93 x.1) _ _ (λ rest is.
+      header_is (rest_dropped 2 text) read (rest_byte 93 x.1 rest is)
+      (omega (arith, byte_shorter 93 x.1 rest refl is, rest_within read.left, rest_within (rest_dropped 2 text))) (λ last. last)))))
       (λ _. alike_if (first text == 91) _ _ _ _
-      (λ opens. alike_map _ _ (header_read (drop 1 text) (rest_on from (rest_dropped 1 text))) (λ x y _ _ read. record {
-        key_same = read.key_same;
-        rest_same = read.rest_same;
-        before = read.before;
-        defines = read.last;
-        left = rest_on (rest_dropped 1 text) read.left;
-        shorter = omega (arith, drop_shorter 91 text refl opens, rest_within read.left);
-      }))
-      (λ _. alike_map _ _ (pair_read whole (value_tree 80) (val 80) (value_read whole 80 (omega arith)) text from) (λ x y _ _ read. record {
-        key_same = read.key_same;
-        rest_same = read.rest_same;
-        before = read.before;
-        defines = read.defines;
-        left = read.left;
-        shorter = read.shorter;
-      })))
+      (λ opens. alike_map _ _ (header_read (drop 1 text) (rest_on from (rest_dropped 1 text))) (λ x y _ _ read. rw read.rest_same
+      (header_is (rest_dropped 1 text) read (rest_itself x.1) (omega (arith, drop_shorter 91 text refl opens, rest_within read.left)) (λ last. last))))
+      (λ _. alike_map _ _ (pair_read whole (value_tree 80) (val 80) (value_read whole 80 (omega arith)) text from) (λ x y _ _ read. read)))
 
   -- one that has its line to itself
   pub line_read : (text : List ℕ) → IsRest whole text → Alike (ReadStatement whole text) (statement_line text) (line text)
   unfolding statement_line line
-  line_read text from = alike_then _ _ (statement_read text from) (λ x y _ _ read. rw read.rest_same (alike_if (ends_line (skip_ws x.1)) _ _ _ _ (λ _. either x (y.0, x.1) refl refl (record {
-    key_same = read.key_same;
-    rest_same = refl;
-    before = read.before;
-    defines = read.defines;
-    left = read.left;
-    shorter = read.shorter;
-  })) (λ _. neither refl refl)))
+  line_read text from = alike_then _ _ (statement_read text from) (λ x y _ _ read.
+      let same : ends_line (skip_ws y.1) ≡ ends_line (skip_ws x.1) = ap (λ (rest : List ℕ). ends_line (skip_ws rest)) read.rest_same in
+      rw same (alike_if (ends_line (skip_ws x.1)) _ _ _ _ (λ _. either x y refl refl read) (λ _. neither refl refl)))
 
 -- ---- documents
 

@@ -1,7 +1,8 @@
 -- A path leads to a tree where it leads to a value, and to the tree of that value.
-use Rattle.std.proofs.Common.{◌≡◌, ℕ, zero, suc, true, cond, List, [], ◌∷◌, Option, Some, None, Ordering, Less, Equal, Greater, is_eq, nat_cmp, option_map, refl, inl, inr}
-use Rattle.std.proofs.lemmas.Bool.{cases_Bool, false≢true}
+use Rattle.std.proofs.Common.{◌≡◌, ℕ, zero, suc, true, cond, List, [], ◌∷◌, Option, Some, None, Ordering, is_eq, nat_cmp, option_map, refl, inl, inr, rules}
+use Rattle.std.proofs.lemmas.Bool.{cases_Bool}
 use Rattle.std.proofs.lemmas.Map.Lookups.{exact_bytes}
+use Rattle.std.specs.Cmp.{Equal-is}
 use Rattle.std.specs.Cmp.Lexicographic.{slice_cmp}
 use Rattle.std.specs.Ordering.{match_ordering}
 use Rattle.toml.specs.Data.{array as array_data, Data, get_item, get_member, item, Items, no_items, push_item, same_key, table as table_data}
@@ -15,15 +16,9 @@ use Rattle.toml_spans.proofs.Trees.Stands.{AreBranches, AreTrees, IsBranch, IsPl
 
 -- ---- keys
 
--- an ordering that tells of a tie is one
-equal_is : (o : Ordering) → is_eq o ≡ true → o ≡ Equal
-equal_is Less is = absurd (false≢true is)
-equal_is Equal is = refl
-equal_is Greater is = absurd (false≢true is)
-
 -- keys that compare as equal are one
 pub one_key : (k l : List ℕ) → same_key k l ≡ true → k ≡ l
-one_key k l same = exact_bytes k l (equal_is (slice_cmp nat_cmp k l) same)
+one_key k l same = exact_bytes k l ((Equal-is (slice_cmp nat_cmp k l)).0 same)
 
 -- the tree at a key, beside the node there
 pub branch_found : (text : List ℕ) (k : List ℕ) (bs : Branches) (ns : Nodes) → AreBranches text bs ns → Alike (IsBranch text k) (get_branch k bs) (get_node k ns)
@@ -39,9 +34,7 @@ branch_found text k (branch l t bs) (node m x ns) (same, here, keyed, more) =
 -- what a look-up in a map and one by a test find at one key
 closed_at : (o : Ordering) (x : Node) (p : Option Node) (d : Option Data) → d ≡ option_map close_node p
     → match_ordering o d (Some (close_node x)) d ≡ option_map close_node (cond (is_eq o) (Some x) p)
-closed_at Less x p d is = is
-closed_at Equal x p d is = refl
-closed_at Greater x p d is = is
+closed_at o x p d is = search rules
 
 -- a value at a key is what the node there stands for
 pub get_closed : (k : List ℕ) (ns : Nodes) → get_member k (close ns) ≡ option_map close_node (get_node k ns)
@@ -77,10 +70,7 @@ trees_pushed text k (tree u ts) (item e ds) t d are is = (are.0, trees_pushed te
 
 -- a value that is neither an array nor a table has nothing below it
 plain_ends : (d : Data) → IsPlain d → (step : PathStep) → step_from d step ≡ None
-plain_ends (array_data ds) plain step = absurd plain
-plain_ends (table_data ms) plain step = absurd plain
-plain_ends d plain (key k) = refl
-plain_ends d plain (index i) = refl
+plain_ends d plain step = search rules
 
 -- one step on
 pub step_found : (text k : List ℕ) (t : Tree) (x : Node) → IsTree text k t x → (step : PathStep) → Alike (IsTreeOf text (last_key_from k (step ∷ []))) (tree_from t step) (step_from (close_node x) step)
@@ -107,8 +97,7 @@ below_found text k t d (x, same, is) (step ∷ path) =
   where
     -- one step, and those after it
     after_step : (k : List ℕ) (step : PathStep) (path : List PathStep) → last_key_from k (step ∷ path) ≡ last_key_from (last_key_from k (step ∷ [])) path
-    after_step k (key l) path = refl
-    after_step k (index i) path = refl
+    after_step k step path = search rules
 
 -- a path from the keys of a document
 pub path_found : (text : List ℕ) (bs : Branches) (ns : Nodes) → AreBranches text bs ns → (path : List PathStep) → Alike (IsTreeOf text (last_key_from [] path)) (tree_at bs path) (found_in (close ns) path)

@@ -1,18 +1,19 @@
 -- What the rules of tables make of trees is what they make of nodes.
-use Rattle.std.proofs.Common.{◌≡◌, ℕ, List, [], ◌∷◌, Option, Some, None, Ordering, Less, Equal, Greater, nat_cmp, option_map, refl, inl, inr}
+use Rattle.std.proofs.Common.{◌≡◌, ℕ, ◌<◌, length, List, [], ◌∷◌, Option, Some, None, Ordering, Less, Equal, Greater, nat_cmp, option_map, refl, inl, inr, rules}
 use Rattle.std.proofs.lemmas.Bool.{cases_Bool}
 use Rattle.std.proofs.lemmas.Map.Lookups.{exact_bytes}
 use Rattle.std.specs.Cmp.Lexicographic.{slice_cmp}
 use Rattle.std.specs.List.{AllByRecursion}
 use Rattle.std.specs.Ordering.{match_ordering}
+use Rattle.toml_parser.specs.Strings.{Key}
 use Rattle.toml.specs.Data.{Data, push_item, same_key, table as table_data}
-use Rattle.toml.specs.Tables.{at_key, close, dot_node, dotted, Edit, get_node, header, header_node, implicit, insert, new_node, no_nodes, Node, node, Nodes, open_array, open_table, Origin, redefine, replace, value, along_dots as along_dots_there, along_header as along_header_there, array_table as array_table_there, at_found as at_found_there, by_dot as by_dot_there, by_header as by_header_there, Definition as DefinitionThere, key_value, put as put_there, std_table as std_table_there}
+use Rattle.toml.specs.Tables.{at_key, close, dot_node, dotted, Edit, get_node, header, header_node, implicit, insert, new_node, no_nodes, Node, node, Nodes, open_array, open_table, Origin, redefine, replace, value, along_dots as along_dots_there, along_header as along_header_there, array_table as array_table_there, by_dot as by_dot_there, by_header as by_header_there, Definition as DefinitionThere, key_value, put as put_there, std_table as std_table_there}
 use Rattle.toml_spans.specs.Entry.{array, after_key, branch, Branches, get_branch, inline, insert_branch, no_branches, push_tree, replace_branch, scalar, table, tables, Tree}
 use Rattle.toml_spans.specs.Key.{key_of, Part, Parts, texts_of}
-use Rattle.toml_spans.specs.Table.{along, array_table, at_found, at_part, by_part, Definition, Growth, new_tree, pair, put, redefined, std_table, through}
+use Rattle.toml_spans.specs.Table.{along, array_table, at_part, by_part, Definition, Growth, new_tree, pair, put, redefined, std_table, through}
 use Rattle.toml_spans.proofs.Trees.Alike.{Alike, alike_map, either, neither}
 use Rattle.toml_spans.proofs.Trees.Found.{branch_found, one_key, trees_pushed}
-use Rattle.toml_spans.proofs.Trees.Stands.{AreBranches, IsBranch, KeyStands, NoEquals}
+use Rattle.toml_spans.proofs.Trees.Stands.{AreBranches, IsBranch, IsRest, KeyStands, NoEquals}
 
 module _ (text : List ℕ) where
   -- ---- changes
@@ -81,50 +82,41 @@ module _ (text : List ℕ) where
   through_dots k grow edit grows (tables p done last bs) (open_array ds ns) is = neither refl refl
   through_dots k grow edit grows t x is = absurd is.0
 
-  -- a change at a key, which makes what wasn't there or changes what was
-  at_key_grows : {A B : Type 0} {P : A → B → Type 0} (k : List ℕ) (make : A → Tree) (make_there : B → Node) (made : Option A) (made_there : Option B)
-      (change : Tree → Option Tree) (edit : Node → Option Node) (bs : Branches) (ns : Nodes) (grown : Option Tree → Option Branches) (edited : Option Node → Option Nodes)
-      → Alike P made made_there → ((a : A) (b : B) → P a b → IsBranch text k (make a) (make_there b)) → GrowsAt k change edit → AreBranches text bs ns
-      → grown None ≡ option_map (λ new. insert_branch k (make new) bs) made → edited None ≡ option_map (λ new. insert k (make_there new) ns) made_there
-      → ((t : Tree) → grown (Some t) ≡ option_map (λ new. replace_branch k new bs) (change t)) → ((x : Node) → edited (Some x) ≡ option_map (λ new. replace k new ns) (edit x))
-      → Alike (AreBranches text) (grown (get_branch k bs)) (edited (get_node k ns))
-  at_key_grows k make make_there made made_there change edit bs ns grown edited new_ones holds changes are fresh fresh_there found found_there =
-      elim (branch_found text k bs ns are) [
-        | neither none none_too ↦ rw (none, none_too, fresh, fresh_there)
-            (alike_map (λ new. insert_branch k (make new) bs) (λ new. insert k (make_there new) ns) new_ones (λ a b _ _ both. branch_inserted k (make a) (make_there b) bs ns (holds a b both) are))
-        | either t x is is_too here ↦ rw (is, is_too, found t, found_there x)
-            (alike_map (λ new. replace_branch k new bs) (λ new. replace k new ns) (changes t x here) (λ u y _ _ both. branch_replaced k u y bs ns both are))
-      ]
-
-  -- ---- paths
-
   -- a part of a key that isn't its last, or the last of a header
   abbrev pub PartStands : Part → Type 0
   PartStands part = KeyStands text part.0 part.1 NoEquals
 
+  -- ---- paths
+
+  -- the table of a part, which is made where it is missing
+  by_part_grows : (by : Origin) (part : Part) (next : Growth) (next_there : Edit) (edit : Node → Option Node) (edited : Nodes → Option Node → Option Nodes)
+      → ((ns : Nodes) → edited ns None ≡ option_map (λ new. insert part.0 (open_table by new) ns) (next_there no_nodes))
+      → ((ns : Nodes) (x : Node) → edited ns (Some x) ≡ option_map (λ new. replace part.0 new ns) (edit x))
+      → PartStands part → Grows next next_there → GrowsAt part.0 (through by next) edit
+      → Grows (λ bs. by_part by part next bs (get_branch part.0 bs)) (λ ns. edited ns (get_node part.0 ns))
+  by_part_grows by part next next_there edit edited fresh found stands grows changes bs ns are =
+      elim (branch_found text part.0 bs ns are) [
+        | neither none none_too ↦ rw (none, none_too, fresh ns) (alike_map _ _ (grows no_branches no_nodes tt) (λ a b _ _ inside.
+            branch_inserted part.0 (table part.1 by a) (open_table by b) bs ns ((stands, refl, inside), refl) are))
+        | either t x is is_too here ↦ rw (is, is_too, found ns x)
+            (alike_map _ _ (changes t x here) (λ u y _ _ both. branch_replaced part.0 u y bs ns both are))
+      ]
+
   -- the end of a header
-  headers_grow : (path : List Part) (grow : Growth) (edit : Edit) → AllByRecursion PartStands path → Grows grow edit → Grows (along implicit path grow) (along_header_there (texts_of path) edit)
+  pub headers_grow : (path : List Part) (grow : Growth) (edit : Edit) → AllByRecursion PartStands path → Grows grow edit → Grows (along implicit path grow) (along_header_there (texts_of path) edit)
   unfolding along along_header_there
-  headers_grow [] grow edit stand grows bs ns are = grows bs ns are
-  headers_grow (part ∷ path) grow edit stand grows bs ns are =
-      let next = along implicit path grow in
-      let next_there = along_header_there (texts_of path) edit in
-      let more : Grows next next_there = headers_grow path grow edit stand.1 grows in
-      at_key_grows part.0 (table part.1 implicit) (open_table implicit) (next no_branches) (next_there no_nodes) (through implicit next) (header_node next_there) bs ns
-      (by_part implicit part next bs) (by_header_there part.0 next_there ns) (more no_branches no_nodes tt) (λ a b both. ((stand.0, refl, both), refl)) (through_headers part.0 next next_there more) are
-      refl refl (λ t. refl) (λ x. refl)
+  headers_grow [] grow edit stand grows = grows
+  headers_grow (part ∷ path) grow edit stand grows =
+      let more = headers_grow path grow edit stand.1 grows in
+      by_part_grows implicit part _ _ _ (by_header_there part.0 _) (λ ns. refl) (λ ns x. refl) stand.0 more (through_headers part.0 _ _ more)
 
   -- the end of a dotted key
   dots_grow : (path : List Part) (grow : Growth) (edit : Edit) → AllByRecursion PartStands path → Grows grow edit → Grows (along dotted path grow) (along_dots_there (texts_of path) edit)
   unfolding along along_dots_there
-  dots_grow [] grow edit stand grows bs ns are = grows bs ns are
-  dots_grow (part ∷ path) grow edit stand grows bs ns are =
-      let next = along dotted path grow in
-      let next_there = along_dots_there (texts_of path) edit in
-      let more : Grows next next_there = dots_grow path grow edit stand.1 grows in
-      at_key_grows part.0 (table part.1 dotted) (open_table dotted) (next no_branches) (next_there no_nodes) (through dotted next) (dot_node next_there) bs ns
-      (by_part dotted part next bs) (by_dot_there part.0 next_there ns) (more no_branches no_nodes tt) (λ a b both. ((stand.0, refl, both), refl)) (through_dots part.0 next next_there more) are
-      refl refl (λ t. refl) (λ x. refl)
+  dots_grow [] grow edit stand grows = grows
+  dots_grow (part ∷ path) grow edit stand grows =
+      let more = dots_grow path grow edit stand.1 grows in
+      by_part_grows dotted part _ _ _ (by_dot_there part.0 _) (λ ns. refl) (λ ns x. refl) stand.0 more (through_dots part.0 _ _ more)
 
   -- ---- definitions
 
@@ -137,10 +129,7 @@ module _ (text : List ℕ) where
 
   -- a new key with what it defines
   new_branch : (part : Part) (what : Definition) (what_there : DefinitionThere) → Defines part what what_there → IsBranch text part.0 (new_tree part.1 what) (new_node what_there)
-  new_branch part (pair t) (key_value d) is = is
-  new_branch part std_table std_table_there is = ((is, refl, tt), refl)
-  new_branch part array_table array_table_there is = ((is, is, tt, tt), refl)
-  new_branch part what what_there is = absurd is
+  new_branch part what what_there is = search rules
 
   -- what is defined once more
   redefines : (part : Part) (what : Definition) (what_there : DefinitionThere) → Defines part what what_there → GrowsAt part.0 (redefined part.1 what) (redefine what_there)
@@ -168,23 +157,25 @@ module _ (text : List ℕ) where
   redefines part what what_there is t x here = absurd is
 
   -- a definition at the last part of a key
-  part_grows : (part : Part) (what : Definition) (what_there : DefinitionThere) → Defines part what what_there → Grows (at_part part what) (at_key part.0 what_there)
+  pub part_grows : (part : Part) (what : Definition) (what_there : DefinitionThere) → Defines part what what_there → Grows (at_part part what) (at_key part.0 what_there)
   unfolding at_part at_key
   part_grows part what what_there is bs ns are =
-      at_key_grows {P = λ _ _. Unit {0}} part.0 (λ (_ : Unit {0}). new_tree part.1 what) (λ (_ : Unit {0}). new_node what_there) (Some tt) (Some tt) (redefined part.1 what) (redefine what_there) bs ns
-      (at_found part what bs) (at_found_there part.0 what_there ns) (either tt tt refl refl tt) (λ _ _ _. new_branch part what what_there is) (redefines part what what_there is) are
-      refl refl (λ t. refl) (λ x. refl)
+      elim (branch_found text part.0 bs ns are) [
+        | neither none none_too ↦ rw (none, none_too) (either _ _ refl refl
+            (branch_inserted part.0 (new_tree part.1 what) (new_node what_there) bs ns (new_branch part what what_there is) are))
+        | either t x is_here is_there here ↦ rw (is_here, is_there)
+            (alike_map _ _ (redefines part what what_there is t x here) (λ u y _ _ both. branch_replaced part.0 u y bs ns both are))
+      ]
 
   -- a pair of a table
   pub put_grows : (parts : Parts) (t : Tree) (d : Data) → AllByRecursion PartStands parts.0 → Defines parts.1 (pair t) (key_value d) → Grows (put parts t) (put_there (key_of parts) d)
   put_grows parts t d stand is = dots_grow parts.0 (at_part parts.1 (pair t)) (at_key parts.1.0 (key_value d)) stand (part_grows parts.1 (pair t) (key_value d) is)
 
-  -- what a header or a pair defines, along a header
-  pub defined_grows : (path : List Part) (part : Part) (what : Definition) (what_there : DefinitionThere) → AllByRecursion PartStands path → Defines part what what_there
-      → Grows (along implicit path (at_part part what)) (along_header_there (texts_of path) (at_key part.0 what_there))
-  defined_grows path part what what_there stand is = headers_grow path (at_part part what) (at_key part.0 what_there) stand (part_grows part what what_there is)
-
-  -- a pair after a header
-  pub pair_grows : (section : List Part) (parts : Parts) (t : Tree) (d : Data) → AllByRecursion PartStands section → AllByRecursion PartStands parts.0 → Defines parts.1 (pair t) (key_value d)
-      → Grows (along implicit section (put parts t)) (along_header_there (texts_of section) (put_there (key_of parts) d))
-  pair_grows section parts t d section_stands stand is = headers_grow section (put parts t) (put_there (key_of parts) d) section_stands (put_grows parts t d stand is)
+-- a statement is read here as it is there, and what it defines stands where it was read
+pub record ReadAlike (whole text : List ℕ) (k : Parts) (what : Definition) (rest : List ℕ) (l : Key) (what_there : DefinitionThere) (rest_there : List ℕ) : Type 0 where
+  pub key_same : l ≡ key_of k
+  pub rest_same : rest_there ≡ rest
+  pub before : AllByRecursion (PartStands whole) k.0
+  pub defines : Defines whole k.1 what what_there
+  pub left : IsRest text rest
+  pub shorter : length rest < length text

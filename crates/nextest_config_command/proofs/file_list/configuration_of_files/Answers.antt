@@ -17,5 +17,5 @@ pub returns-in-Err-Refused : goal.returns-in-Err-Refused
 returns-in-Err-Refused c =
     let documents = rw c.in-Some.is at c.in_ok-documents.ensures in
     let refused = (c.in-Err-Refused.ensures.refused (map given_file (all_files (files_of c.args.files.now))) (rw (← c.as_slice.ensures.value) at documents.1)).refused in
-    let told = rw c.in-Err-Refused.field-0-is at refused in
-    inr (document_texts _ documents.0, (c.in-Err-Refused.field-0-0, told.0, told.2))
+    let reported = rw c.in-Err-Refused.field-0-is at refused in
+    inr (document_texts _ documents.0, (c.in-Err-Refused.field-0-0, reported.0, reported.2))

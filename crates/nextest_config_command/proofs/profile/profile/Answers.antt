@@ -1,7 +1,7 @@
 use Rattle.nextest_config_command.specs.Found.{all_files, files_of}
 use Rattle.nextest_config_command.specs.Profile.{AreSound, faulty, sound}
 use Rattle.nextest_config_command.proofs.LayersOfFiles.{sound_documents}
-use Rattle.nextest_config_command.proofs.ProfilesTold.{errors_refuse, no_error_passes}
+use Rattle.nextest_config_command.proofs.ProfilesReported.{errors_refuse, no_error_passes}
 use Rattle.nextest_config_command.proofs.profile.profile.Goals as goal
 
 pub returns-then-lint-gt0 : goal.returns-then-lint-gt0

@@ -1,21 +1,5 @@
 use Rattle.nextest_config_elements.proofs.Levels.{each_element, parts_nothing, row, table, table_by_backoff}
-use Rattle.std.proofs.Common.{refl}
 use Rattle.nextest_config_elements.proofs.keys.override_fields.Goals as goal
 
 pub returns : goal.returns
-returns c =
-    row _ _ _ _ parts_nothing
-    (row _ _ _ _ parts_nothing
-    (row _ _ _ _ (search (row, table_by_backoff, parts_nothing) depth 20 fits 900)
-    (row _ _ _ _ parts_nothing
-    (row _ _ _ _ (search (row, table, parts_nothing) depth 20 fits 900)
-    (row _ _ _ _ (search (row, table, parts_nothing) depth 20 fits 900)
-    (row _ _ _ _ (search (row, table, parts_nothing) depth 20 fits 900)
-    (row _ _ _ _ parts_nothing
-    (row _ _ _ _ (search (row, table, parts_nothing) depth 20 fits 900)
-    (row _ _ _ _ parts_nothing
-    (row _ _ _ _ parts_nothing
-    (row _ _ _ _ (search (row, each_element, parts_nothing) depth 20 fits 900)
-    (row _ _ _ _ parts_nothing
-    (row _ _ _ _ parts_nothing
-    (row _ _ _ _ parts_nothing refl))))))))))))))
+returns c = search (row, table, table_by_backoff, each_element, parts_nothing) depth 60 fits 4000

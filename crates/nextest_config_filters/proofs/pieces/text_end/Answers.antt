@@ -1,6 +1,6 @@
 use Rattle.std.proofs.Common.{sym, ◌∙◌, refl, rules}
 use Rattle.nextest_config_filters.specs.Pieces.{is_brace, is_opening}
-use Rattle.nextest_config_filters.proofs.TextEnds.{met_more}
+use Rattle.nextest_config_filters.proofs.Filters.TextEnds.{met_more}
 use Rattle.nextest_config_filters.proofs.pieces.text_end.Goals as goal
 
 pub loop-c-preserved : goal.loop-c-preserved

@@ -3,10 +3,10 @@ use Rattle.std.proofs.lemmas.List.{map-append}
 use Rattle.nextest_config_values.specs.Read.{cause_of}
 use Rattle.toml_spans.specs.Step.{step_of}
 use Rattle.nextest_config_lint.specs.Settings.{setting_view}
-use Rattle.nextest_config_lint.proofs.FoundKinds.{unjudged_told}
+use Rattle.nextest_config_lint.proofs.FoundKinds.{unjudged_reported}
 use Rattle.nextest_config_lint.proofs.faults.unjudged_at.Goals as goal
 
 pub returns : goal.returns
 returns c =
     let whole : map step_of c.append.new.self.items ≡ (setting_view c.args.setting.now).path ++ map step_of c.args.fault.steps.items = search (rules, map-append) in
-    unjudged_told (setting_view c.args.setting.now) (map step_of c.args.fault.steps.items) _ (cause_of c.args.fault.cause) whole
+    unjudged_reported (setting_view c.args.setting.now) (map step_of c.args.fault.steps.items) _ (cause_of c.args.fault.cause) whole

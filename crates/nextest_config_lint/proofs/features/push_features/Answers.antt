@@ -21,12 +21,11 @@ one_more text so_far separated named more separator xs x is first second fourth 
 
 pub loop-feature-preserved : goal.loop-feature-preserved
 unfolding lib.Utf8.encode
-loop-feature-preserved c =
-    let invariant = c.loop-feature.invariant in (
-      (44 ∷ 32 ∷ [], (refl, refl)),
-      separator_more c.loop-feature.yielded c.in-Some.feature,
-      one_more _ _ _ _ _ _ c.loop-feature.yielded c.in-Some.feature invariant.1 invariant.2 c.in_ok-push_str.ensures.bytes c.in_ok-push_str-3.ensures.bytes (search rules),
-    )
+loop-feature-preserved c = (
+  (44 ∷ 32 ∷ [], (refl, refl)),
+  separator_more c.loop-feature.yielded c.in-Some.feature,
+  one_more _ _ _ _ _ _ c.loop-feature.yielded c.in-Some.feature c.loop-feature.invariant.1 c.loop-feature.invariant.2 c.in_ok-push_str.ensures.bytes c.in_ok-push_str-3.ensures.bytes (search rules),
+)
 
 pub returns : goal.returns
 returns c =

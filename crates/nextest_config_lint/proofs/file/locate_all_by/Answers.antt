@@ -9,4 +9,4 @@ loop-finding-preserved c =
     let one : LocatedFinding = record { span = c.in_ok-span.span; finding = c.in-Some.finding } in
     let pushed : c.push.new.self.items ≡ c.loop-finding.located.items ++ (one ∷ []) = search rules in
     rw pushed (zip_push (IsLocated c.args.file.text.now) _ _ c.in-Some.finding one c.loop-finding.invariant
-    (λ found told. record { told = told; index = c.args.file.index.now; of_text = c.requires.file.of_text; at_range = c.in_ok-span.ensures found told }))
+    (λ found reported. record { reported = reported; index = c.args.file.index.now; of_text = c.requires.file.of_text; at_range = c.in_ok-span.ensures found reported }))

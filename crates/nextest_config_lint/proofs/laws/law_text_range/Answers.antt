@@ -1,5 +1,5 @@
-use Rattle.nextest_config_lint.proofs.TextRanges.{plain_told}
+use Rattle.nextest_config_lint.proofs.TextRanges.{plain_reported}
 use Rattle.nextest_config_lint.proofs.laws.law_text_range.Goals as goal
 
 pub returns : goal.returns
-returns c = plain_told
+returns c = plain_reported

@@ -2,7 +2,7 @@ use Rattle.std.proofs.Common.{◌≡◌, length, rules}
 use Rattle.toml.specs.View.{view}
 use Rattle.nextest_config_values.specs.Read.{cause_of, fault_of}
 use Rattle.toml_spans.specs.Step.{step_of}
-use Rattle.nextest_config_lint.proofs.VersionOrder.{elsewhere_in_order, here_is_order, memory_stays, none_left, refused_here, some_left, told_elsewhere}
+use Rattle.nextest_config_lint.proofs.VersionOrder.{elsewhere_in_order, here_is_order, memory_stays, none_left, refused_here, some_left, reported_elsewhere}
 use Rattle.nextest_config_lint.proofs.rules.of_order.Goals as goal
 
 pub returns-then-is_memory-clause-refused : goal.returns-then-is_memory-clause-refused
@@ -16,5 +16,5 @@ returns-then-is_empty-clause-refused c =
 
 pub returns-clause-meant : goal.returns-clause-meant
 returns-clause-meant c =
-    told_elsewhere _ _ _ _ _ (cause_of c.args.fault.cause) (some_left step_of c.args.fault.steps.items _ c.args.fault.steps.ok.0 c.if-is_empty.ensures) c.if-is_memory.ensures c.requires.refused.told
+    reported_elsewhere _ _ _ _ _ (cause_of c.args.fault.cause) (some_left step_of c.args.fault.steps.items _ c.args.fault.steps.ok.0 c.if-is_empty.ensures) c.if-is_memory.ensures c.requires.refused.told
     (λ fault elsewhere wrong. elsewhere_in_order (view c.args.value.now) fault wrong elsewhere)

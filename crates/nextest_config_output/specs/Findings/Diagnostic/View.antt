@@ -7,13 +7,15 @@ use Rattle.nextest_config_output.specs.Findings.Escapes.{escaped_text}
 use Rattle.nextest_config_output.specs.declared.findings.escapes.Escapes.{Escapes}
 use Rattle.nextest_config_output.specs.declared.findings.diagnostic.Diagnostic.{Diagnostic}
 
--- a finding: the printed path of its file, where it stands there, how grave it is, the word of its
--- kind, the printed path of what is found, which is empty for the whole file, and what is said
+-- a finding, by the texts that formats print of it
 pub record DiagnosticView : Type 0 where
+  -- the printed path of its file, and where it stands there
   pub file : List ℕ
   pub span : Span
+  -- how grave it is, and the word of its kind
   pub severity : FindingSeverity
   pub code : List ℕ
+  -- the printed path of what is found, which is empty for the whole file, and what is said of it
   pub key : List ℕ
   pub message : List ℕ
 

@@ -1,8 +1,9 @@
 //! What is shown of characters, and the columns that it takes.
 
-ghost use Rattle.std.specs.Prelude.{◌≡◌, ◌*◌, ◌≤◌, flat_map, IsTrue, length, Some};
+ghost use Rattle.std.specs.Prelude.{◌≡◌, ◌*◌, ◌≤◌, encode_utf8, flat_map, IsTrue, length, Some};
+ghost use Rattle.std.specs.Char.Escape.{escape_unicode};
 ghost use Rattle.std.specs.Fmt.{WritesOnOk};
-ghost use Rattle.nextest_config_values.specs.Literal.Shown.{is_unprintable, shown_by_code};
+ghost use Rattle.nextest_config_values.specs.Literal.Shown.{is_unprintable};
 ghost use Rattle.nextest_config_output.specs.Findings.Excerpt.Shown.{character_shown, columns, columns_of};
 
 use nextest_config_values::literal::{is_unprintable, write_shown};
@@ -11,9 +12,9 @@ use unicode_width::UnicodeWidthChar;
 
 /// Characters that print as they are shown.
 #[derive(Clone, Copy)]
-pub(crate) struct Shown<'a>(pub &'a [char]);
+pub(crate) struct ShownCharacters<'a>(pub &'a [char]);
 
-impl fmt::Display for Shown<'_> {
+impl fmt::Display for ShownCharacters<'_> {
     ghost output = { λ shown. Some (flat_map character_shown shown.0.now) };
 
     fn fmt<W: fmt::Write>(&self, f: &mut fmt::Formatter<W>) -> fmt::Result {
@@ -80,7 +81,7 @@ fn escape_columns(c: char) -> usize
 // The columns that a character takes which is shown by its code.
 fn code_columns(c: char) -> usize
     requires { IsTrue (is_unprintable c) }
-    ensures value { result ≡ length (shown_by_code c) }
+    ensures value { result ≡ length (flat_map encode_utf8 (escape_unicode c)) }
     ensures bound { result ≤ 8 }
 {
     match c {

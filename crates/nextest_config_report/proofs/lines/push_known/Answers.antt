@@ -24,10 +24,11 @@ some_known (feature ∷ features) some = refl
 pub loop-feature-preserved : goal.loop-feature-preserved
 unfolding lib.Utf8.encode
 loop-feature-preserved c =
-    let invariant = c.loop-feature.invariant in (
+    let invariant = c.loop-feature.invariant in
+    let feature = c.in-Some.feature in (
       (44 ∷ 32 ∷ [], (refl, refl)),
-      separator_more c.loop-feature.yielded c.in-Some.feature,
-      one_more _ _ _ _ _ c.loop-feature.yielded c.in-Some.feature invariant.1 invariant.2 c.in_ok-push_str.ensures.bytes (search rules),
+      separator_more c.loop-feature.yielded feature,
+      one_more _ _ _ _ _ c.loop-feature.yielded feature invariant.1 invariant.2 c.in_ok-push_str.ensures.bytes (search rules),
     )
 
 pub returns : goal.returns

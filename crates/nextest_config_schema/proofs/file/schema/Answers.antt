@@ -4,7 +4,7 @@ use Rattle.serde_json.specs.View.{view}
 use Rattle.nextest_config_schema.specs.Fields.{IsTable}
 use Rattle.nextest_config_schema.specs.File.{comment, draft}
 use Rattle.nextest_config_schema.specs.Values.{having}
-use Rattle.nextest_config_schema.specs.declared.place.Place.TheVariants.{File}
+use Rattle.nextest_config_schema.specs.declared.schema_place.SchemaPlace.TheVariants.{File}
 use Rattle.nextest_config_schema.proofs.file.schema.Goals as goal
 
 pub returns : goal.returns

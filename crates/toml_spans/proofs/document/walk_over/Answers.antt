@@ -1,4 +1,4 @@
-use Rattle.std.proofs.Common.{rules, ◌≡◌, ◌==◌, ◌∙◌, false, length, Some, Result, Ok, Err, IfErr, sym, inl, inr, arith}
+use Rattle.std.proofs.Common.{rules, ◌≡◌, ◌==◌, false, length, Some, Result, IfErr, inl, inr, arith}
 use Rattle.std.proofs.lemmas.Grind.{common_steps}
 use Rattle.std.specs.Result.{IsErrAnd}
 use Rattle.toml_parser.specs.Lexical.{skip_blank}
@@ -15,8 +15,7 @@ statements-init c = (search rules, rw (c.skip_bom-rest.ensures.rest, c.new-root.
 -- a refusal that a `?` passes on, and what it says where it isn't of memory
 refused_err : {A : Type 0} {P : Type 0} (r : Result A Refusal) (e : Refusal) (Q : Refusal → Type 0)
     → IsErrAnd r Q → ((y : Refusal) → Q y → y ≡ e) → (e ≡ NoDocument → P) → IfErr r (λ y. y ≡ NoDocument → P)
-refused_err (Ok a) e Q h same refused = tt
-refused_err (Err y) e Q h same refused = λ is. refused (sym (same y h) ∙ is)
+refused_err r e Q h same refused = search rules
 
 pub returns-in_err-key-clause-refused : goal.returns-in_err-key-clause-refused
 returns-in_err-key-clause-refused c =

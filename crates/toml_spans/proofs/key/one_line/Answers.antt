@@ -15,7 +15,7 @@ pub returns-in_err-key-clause-value : goal.returns-in_err-key-clause-value
 returns-in_err-key-clause-value c =
     let text = c.args.text.now in
     let other : (slice_index text 1 == slice_index text 0) ≡ false = grind (arith, nat_tests, common_steps) in
-    gives_read_err _ c.from_residual.result _ c.in_err-key.field-0.0 _ c.from_residual.ensures.1 (λ y k. k) λ refused.
+    gives_read_err _ _ c.from_residual.ensures.1 λ refused.
     one_line_quoted text other ∙ c.in_err-key.ensures.value refused
 
 pub returns-clause-value : goal.returns-clause-value

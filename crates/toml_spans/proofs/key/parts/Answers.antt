@@ -11,7 +11,7 @@ pub returns-in_err-key-clause-value : goal.returns-in_err-key-clause-value
 returns-in_err-key-clause-value c =
     let l = c.parts in
     let turn = parts_turn (80 - l._part) (path_of l.path.items) l.rest.now (omega arith) in
-    gives_err _ c.from_residual.result _ c.in_err-key.field-0.0 _ c.from_residual.ensures.1 (λ y k. k) λ refused.
+    gives_err _ _ c.from_residual.ensures.1 λ refused.
     l.invariant.2 ∙ turn ∙ rw (c.in_err-key.ensures.value refused)
 
 pub returns-then-first-ne46-clause-value : goal.returns-then-first-ne46-clause-value

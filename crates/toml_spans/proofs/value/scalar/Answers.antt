@@ -11,14 +11,14 @@ pub returns-in_err-rest-clause-value : goal.returns-in_err-rest-clause-value
 unfolding atom
 returns-in_err-rest-clause-value c =
     let begins : starts_string c.args.text.now ≡ true = grind (arith, nat_tests, common_steps) in
-    gives_read_err _ c.from_residual.result _ c.in_err-rest.field-0.0 _ c.from_residual.ensures.1 (λ y k. k) λ refused.
+    gives_read_err _ _ c.from_residual.ensures.1 λ refused.
     rw (begins, c.in_err-rest.ensures.value refused)
 
 pub returns-in_err-rest-2-clause-value : goal.returns-in_err-rest-2-clause-value
 unfolding atom
 returns-in_err-rest-2-clause-value c =
     let other : starts_string c.args.text.now ≡ false = grind (arith, nat_tests, common_steps) in
-    gives_read_err _ c.from_residual-in_err-rest-2.result _ c.in_err-rest-2.field-0.0 _ c.from_residual-in_err-rest-2.ensures.1 (λ y k. k) λ refused.
+    gives_read_err _ _ c.from_residual-in_err-rest-2.ensures.1 λ refused.
     rw (other, c.in_err-rest-2.ensures.value refused)
 
 pub returns-in_ok-rest-clause-value : goal.returns-in_ok-rest-clause-value

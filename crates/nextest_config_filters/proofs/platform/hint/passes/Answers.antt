@@ -1,6 +1,6 @@
 use Rattle.std.proofs.Common.{◌≡◌}
 use Rattle.std.specs.Str.{chars}
-use Rattle.nextest_config_filters.specs.Platform.Told.{told_view}
+use Rattle.nextest_config_filters.specs.Platform.Reading.{fault_view}
 use Rattle.nextest_config_filters.specs.Platform.Walk.{not_judged, passes, wrong}
 use Rattle.nextest_config_filters.proofs.Platforms.Outcomes.{outcome_once}
 use Rattle.nextest_config_filters.proofs.platform.hint.passes.Goals as goal
@@ -13,7 +13,7 @@ returns-in-Unjudged c is =
 
 pub returns-in-Wrong : goal.returns-in-Wrong
 returns-in-Wrong c is =
-    let told = told_view c.in-Wrong.field-0 in
-    let no : wrong told ≡ passes =
-    outcome_once (chars c.args.text.now) (wrong told) passes (rw c.in-Wrong.is at c.in_ok-judged.ensures.found) is in
+    let reported = fault_view c.in-Wrong.field-0 in
+    let no : wrong reported ≡ passes =
+    outcome_once (chars c.args.text.now) (wrong reported) passes (rw c.in-Wrong.is at c.in_ok-judged.ensures.found) is in
     cc no

@@ -1,5 +1,5 @@
 use Rattle.std.specs.Str.{chars}
-use Rattle.nextest_config_filters.proofs.Arguments.{without_spaces_front}
+use Rattle.nextest_config_filters.proofs.Fronts.{without_spaces_front}
 use Rattle.nextest_config_filters.proofs.platform.outcome.outside.Goals as goal
 
 pub split_front-requires : goal.split_front-requires

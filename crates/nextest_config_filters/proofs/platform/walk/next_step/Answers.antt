@@ -2,7 +2,7 @@ use Rattle.std.proofs.Common.{◌∙◌, ◌∷◌, length, sym, ap, refl, subst
 use Rattle.std.proofs.lemmas.Result.{err_from_is_err_and}
 use Rattle.std.specs.Str.{chars}
 use Rattle.nextest_config_filters.specs.Platform.Walk.{next_of, with_group, with_member}
-use Rattle.nextest_config_filters.specs.declared.platform.told.After.TheVariants as after
+use Rattle.nextest_config_filters.specs.declared.platform.reading.After.TheVariants as after
 use Rattle.nextest_config_filters.proofs.Platforms.Readings.{Leaves, leaves_rest}
 use Rattle.nextest_config_filters.proofs.Platforms.Walks.{levels_many, shown_reading}
 use Rattle.nextest_config_filters.proofs.platform.walk.next_step.Goals as goal

@@ -1,8 +1,10 @@
 use Rattle.std.proofs.Common.{length, ap, refl, arith, rules}
 use Rattle.std.specs.Str.{chars}
-use Rattle.nextest_config_filters.specs.Platform.Walk.{start, stays}
-use Rattle.nextest_config_filters.proofs.Platforms.Steps.{leads_on, next_within, within_at_start}
-use Rattle.nextest_config_filters.proofs.Walks.{chars_fit}
+use Rattle.nextest_config_filters.specs.Platform.Walk.{next, start}
+use Rattle.nextest_config_filters.specs.Steps.{stays}
+use Rattle.nextest_config_filters.proofs.Filters.Walks.{chars_fit}
+use Rattle.nextest_config_filters.proofs.Platforms.Steps.{next_within, within_at_start}
+use Rattle.nextest_config_filters.proofs.Steps.{leads_on}
 use Rattle.nextest_config_filters.proofs.platform.walk.walk.Goals as goal
 
 pub loop-outer-init : goal.loop-outer-init
@@ -41,12 +43,12 @@ loop-outer-preserved c =
     record {
       text = search rules;
       room = omega (arith, c.loop-outer.invariant.room, c.in_ok-next.ensures.capacity);
-      at = (step.0, leads_on _ _ _ at.1 step.1, step.2, kept.0);
+      at = (step.0, leads_on next _ _ _ at.1 step.1, step.2, kept.0);
     }
 
 pub returns-in_err-next-clause-no_memory : goal.returns-in_err-next-clause-no_memory
 returns-in_err-next-clause-no_memory c shallow =
     let at = c.loop-outer.invariant.at in
     let beyond = c.in_err-next.ensures.beyond at.0 at.2 in
-    let most = shallow beyond.0 (leads_on _ _ _ at.1 beyond.1) in
+    let most = shallow beyond.0 (leads_on next _ _ _ at.1 beyond.1) in
     absurd (omega (arith, c.loop-outer.invariant.room, most, beyond.2))

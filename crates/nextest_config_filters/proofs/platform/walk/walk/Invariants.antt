@@ -1,7 +1,8 @@
 use Rattle.std.proofs.Common.{◌≤◌, length}
 use Rattle.std.specs.Str.{chars, IsUtf8}
 use Rattle.nextest_config_filters.specs.Platform.Steps.{Shows}
-use Rattle.nextest_config_filters.specs.Platform.Walk.{Leads, start, State}
+use Rattle.nextest_config_filters.specs.Platform.Walk.{next, start, State}
+use Rattle.nextest_config_filters.specs.Steps.{Leads}
 use Rattle.nextest_config_filters.proofs.Platforms.Steps.{IsWithin}
 use Rattle.nextest_config_filters.proofs.platform.walk.walk.Given as goal
 
@@ -10,7 +11,7 @@ abbrev pub invariant-loop-outer : goal.invariant-loop-outer
 invariant-loop-outer l = record {
   text : IsUtf8 l.state.rest.now;
   room : 8 ≤ l.outer.capacity;
-  at : (now : State) × Leads (start (chars l.text) (chars l.opened)) now × Shows l.outer.items l.state now
+  at : (now : State) × Leads next (start (chars l.text) (chars l.opened)) now × Shows l.outer.items l.state now
       × IsWithin (chars l.text) now;
 }
 

@@ -1,6 +1,7 @@
 -- Nothing is left, so all was shown; and the table has each entry at its key.
-use Rattle.std.proofs.Common.{◌≡◌, ◌∙◌, Some, map, rules}
+use Rattle.std.proofs.Common.{◌≡◌, ◌∙◌, None, Some, map, rules, sym}
 use Rattle.toml.proofs.Lines.{data_of_table}
+use Rattle.toml.proofs.Views.{table_get}
 use Rattle.toml.specs.Data.{as_array, as_table}
 use Rattle.toml.specs.View.{array_view, table_view, view}
 use Rattle.nextest_config_elements.proofs.Levels.{parts_elements, parts_elements_or_fields, parts_names}
@@ -36,6 +37,14 @@ visit_parts-returns-in-Some-as_array-clause-visited g t c =
 pub visit_parts-returns-in-ElementsOrFields-clause-visited : goal.visit_parts-returns-in-ElementsOrFields-clause-visited
 visit_parts-returns-in-ElementsOrFields-clause-visited g t c =
     rw (c.in-ElementsOrFields.is, parts_elements_or_fields c.in-ElementsOrFields.shape c.in-ElementsOrFields.fields) c.visit_either.ensures.visited
+
+pub visit_field-returns-in-Some-clause-visited : goal.visit_field-returns-in-Some-clause-visited
+visit_field-returns-in-Some-clause-visited g t c =
+    rw (sym c.within-severity.ensures, sym (table_get (Some c.in-Some.value) c.args.field.now.key.now c.args.table.now.entries (rw c.in-Some.is at c.get.ensures.value))) c.visit_below.ensures.visited
+
+pub visit_field-returns-in-None-clause-visited : goal.visit_field-returns-in-None-clause-visited
+visit_field-returns-in-None-clause-visited g t c =
+    rw (sym c.within-severity.ensures, sym (table_get None c.args.field.now.key.now c.args.table.now.entries (rw c.in-None.is at c.get.ensures.value))) c.show_absent.ensures.visited
 
 pub visit_fields-loop-field-preserved : goal.visit_fields-loop-field-preserved
 visit_fields-loop-field-preserved g t c =

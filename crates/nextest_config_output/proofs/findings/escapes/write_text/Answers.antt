@@ -13,13 +13,13 @@ loop-c-preserved g c plain =
     has_written_of_eq _ _ _ _ _ (flat_map_more (escaped_character c.args.escapes) [] c.loop-c.yielded c.in-Some.c)
     (has_written_append _ _ _ _ _ _ so_far (c.in_ok-write_escaped.ensures so_far.plain (refl {a = true})))
 
+pub returns-then-are_plain : goal.returns-then-are_plain
+returns-then-are_plain g c p ok =
+    let wrote = c.write_str.ensures.writes p ok in
+    has_written_of_eq _ _ _ _ _ (sym (plain_text c.args.escapes c.args.text.now (sym c.are_plain.ensures ∙ c.if-are_plain.true))) wrote
+
 pub returns : goal.returns
 unfolding escaped_text
 returns g c p ok =
     let all = YieldsList-end (YieldsList-from_chars c.args.text.now c.utf8.text (search rules)) c.loop-c.yielded _ c.loop-c.yielded_by _ _ c.in-None.is c.next.ensures.steps in
     rw (← all.0, map-id) (c.loop-c.invariant p)
-
-pub returns-then-are_plain : goal.returns-then-are_plain
-returns-then-are_plain g c p ok =
-    let wrote = c.write_str.ensures.writes p ok in
-    has_written_of_eq _ _ _ _ _ (sym (plain_text c.args.escapes c.args.text.now (sym c.are_plain.ensures ∙ c.if-are_plain.true))) wrote

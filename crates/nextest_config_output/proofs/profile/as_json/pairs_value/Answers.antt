@@ -1,9 +1,8 @@
-use Rattle.std.proofs.Common.{◌≡◌, ◌∙◌, ap, refl, rules, string_bytes}
+use Rattle.std.proofs.Common.{◌∙◌, ap, refl}
 use Rattle.std.proofs.lemmas.List.{take_all}
 use Rattle.std.proofs.lemmas.List.Sums.{fold_more}
-use Rattle.serde_json.proofs.Views.{members_view-insert_entry, view-Object}
+use Rattle.serde_json.proofs.Views.{view-Object}
 use Rattle.serde_json.specs.Data.{Members, no_members, object, put}
-use Rattle.serde_json.specs.View.{members_view}
 use Rattle.nextest_config_profiles.specs.declared.report.parts.OverrideSetting.{OverrideSetting}
 use Rattle.nextest_config_output.specs.Profile.Object.{literal_data}
 use Rattle.nextest_config_output.proofs.profile.as_json.pairs_value.Goals as goal
@@ -14,15 +13,11 @@ with_pair pairs setting = put setting.key.now (literal_data setting.literal) pai
 pub loop-setting-preserved : goal.loop-setting-preserved
 loop-setting-preserved c =
     let l = c.loop-setting in
-    let setting = c.setting-item.result in
-    let named : string_bytes c.in_ok-key.key ≡ setting.key.now = search rules in
-    ap members_view c.in_ok-insert.ensures.entries
-    ∙ members_view-insert_entry l.pairs.entries c.in_ok-key.key c.in_ok-json_value.field-0
+    c.in_ok-put.ensures
     ∙ rw (
-      named,
-      c.in_ok-json_value.ensures,
+      c.in_ok-value.ensures,
       l.invariant,
-      fold_more with_pair no_members c.args.settings.now l.setting-index setting c.loop-setting-test.true,
+      fold_more with_pair no_members c.args.settings.now l.setting-index c.setting-item.result c.loop-setting-test.true,
       ← c.setting-item.is,
     )
     refl

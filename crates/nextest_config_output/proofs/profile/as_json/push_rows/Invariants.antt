@@ -3,7 +3,7 @@ use Rattle.serde_json.specs.View.{view}
 use Rattle.nextest_config_output.specs.Profile.AsJson.{row_objects}
 use Rattle.nextest_config_output.proofs.profile.as_json.push_rows.Given as goal
 
--- what is told of the keys so far is pushed
+-- what is reported of the keys so far is pushed
 abbrev pub invariant-loop-row : goal.invariant-loop-row
 invariant-loop-row l =
     map view l.values.items

@@ -1,6 +1,6 @@
 use Rattle.std.proofs.Common.{◌≡◌, ◌++◌, flat_map, map, string_bytes, take}
 use Rattle.nextest_config_output.specs.Profile.Columns.{line_text}
-use Rattle.nextest_config_output.specs.Profile.Line.{line_of}
+use Rattle.nextest_config_output.specs.Profile.SourcedLine.{line_of}
 use Rattle.nextest_config_output.proofs.profile.columns.push_lines.Given as goal
 
 -- the lines so far are pushed

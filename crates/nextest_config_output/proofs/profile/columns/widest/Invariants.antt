@@ -1,6 +1,6 @@
 use Rattle.std.proofs.Common.{◌≡◌, ◌≤◌, map, take}
 use Rattle.nextest_config_output.specs.Profile.Columns.{widest}
-use Rattle.nextest_config_output.specs.Profile.Line.{line_of}
+use Rattle.nextest_config_output.specs.Profile.SourcedLine.{line_of}
 use Rattle.nextest_config_output.proofs.profile.columns.widest.Given as goal
 
 -- the widest so far

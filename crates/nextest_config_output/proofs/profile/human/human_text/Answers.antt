@@ -4,8 +4,8 @@ use Rattle.nextest_config_profiles.specs.declared.report.profile_report.ProfileR
 use Rattle.nextest_config_output.specs.Profile.Columns.{line_text, source_column}
 use Rattle.nextest_config_output.specs.Profile.Human.{human_text, others_text}
 use Rattle.nextest_config_output.specs.Profile.Chain.{chain_text, name_of}
-use Rattle.nextest_config_output.specs.Profile.Line.{Line, line_of, other_line}
-use Rattle.nextest_config_output.specs.Profile.Lines.{setting_lines}
+use Rattle.nextest_config_output.specs.Profile.SourcedLine.{Line, line_of, other_line}
+use Rattle.nextest_config_output.specs.Profile.SettingLines.{setting_lines}
 use Rattle.nextest_config_output.specs.Profile.Overrides.{overrides_text}
 use Rattle.nextest_config_output.proofs.profile.human.human_text.Goals as goal
 

@@ -7,4 +7,4 @@ use Rattle.nextest_config_profiles.proofs.report.elements.+push_below.Goals as g
 pub returns : goal.returns
 returns n c =
     let layers = layers_in c.args.effective.now in
-    layer_more (elements_below layers c.args.profile.now) (elements_in layers c.args.profile.now) (λ n. refl) c.args.layers (c.args.layers - 1) (omega (arith, c.if-layers-eq0.false)) _ _ _ c.in_ok-push_in.ensures c.in_ok-push_below.ensures
+    layer_more (elements_below layers c.args.profile.now) (elements_in layers c.args.profile.now) (λ n. refl) c.args.layers (c.args.layers - 1) (omega (arith, c.if-layers-eq0.false)) _ _ _ (rw (c.overrides_in-items.ensures, c.of_profile.ensures) at c.in_ok-push_items.ensures) c.in_ok-push_below.ensures

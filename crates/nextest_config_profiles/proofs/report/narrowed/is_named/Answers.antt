@@ -8,6 +8,6 @@ use Rattle.nextest_config_profiles.proofs.report.narrowed.is_named.Goals as goal
 
 pub returns : goal.returns
 returns c =
-    let told = c.args.told.now in
-    any_from_yields_List (λ key. is_named_by told (path_of key)) _ _ c.any.result c.any.ensures.ran (YieldsList-from_slice c.args.wanted.now cc) (λ x b q k. search rules)
-    ∙ any_mapped (is_named_by told) path_of c.args.wanted.now
+    let shown = c.args.shown.now in
+    any_from_yields_List (λ key. is_named_by shown (path_of key)) _ _ c.any.result c.any.ensures.ran (YieldsList-from_slice c.args.wanted.now cc) (λ x b q k. search rules)
+    ∙ any_mapped (is_named_by shown) path_of c.args.wanted.now

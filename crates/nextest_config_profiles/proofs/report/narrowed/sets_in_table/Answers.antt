@@ -10,7 +10,7 @@ use Rattle.nextest_config_profiles.proofs.report.narrowed.sets_in_table.Goals as
 
 pub returns : goal.returns
 returns c =
-    let sets = sets_keys (map path_of c.args.wanted.now) c.args.told.now in
+    let sets = sets_keys (map path_of c.args.wanted.now) c.args.shown.now in
     let above = (member_of c.args.table.now).key ∷ [] in
     let fields = c.table_fields.result.now in
     any_from_yields_List (λ f. is_setting above (member_of f).absent && sets (above ++ ((member_of f).key ∷ []))) _ _ c.any.result c.any.ensures.ran

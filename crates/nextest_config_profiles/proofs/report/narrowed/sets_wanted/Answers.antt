@@ -10,7 +10,7 @@ use Rattle.nextest_config_profiles.proofs.report.narrowed.sets_wanted.Goals as g
 
 pub returns-then-any : goal.returns-then-any
 returns-then-any c =
-    let sets = sets_keys (map path_of c.args.wanted.now) c.args.told.now in
+    let sets = sets_keys (map path_of c.args.wanted.now) c.args.shown.now in
     let fields = c.profile_fields-fields.result.now in
     some_itself sets c.any.result c.if-any.true
     (any_from_yields_List (λ f. is_setting [] (member_of f).absent && sets ((member_of f).key ∷ [])) _ _ c.any.result c.any.ensures.ran (YieldsList-from_slice fields cc) (λ x b q k. search rules)
@@ -18,7 +18,7 @@ returns-then-any c =
 
 pub returns-else-any : goal.returns-else-any
 returns-else-any c =
-    let sets = sets_keys (map path_of c.args.wanted.now) c.args.told.now in
+    let sets = sets_keys (map path_of c.args.wanted.now) c.args.shown.now in
     let fields = c.profile_fields-fields.result.now in
     some_below sets c.any.result c.any-else-any.result c.if-any.false
     (any_from_yields_List (λ f. is_setting [] (member_of f).absent && sets ((member_of f).key ∷ [])) _ _ c.any.result c.any.ensures.ran (YieldsList-from_slice fields cc) (λ x b q k. search rules)

@@ -27,7 +27,7 @@ loop-setting-preserved c =
     let names = ap names_of c.as_slice-3.ensures.value ∙ c.in_ok-all.ensures.names ∙ ap words_of c.as_slice.ensures.value in
     let (rows, are_rows, pushed) = c.in_ok-push_setting.ensures.rows in
     let (added, are_faults, added_too) = c.in_ok-push_setting.ensures.faults in (
-      rw pushed (zip_more (AreRows c.args.effective.now c.args.tells_hidden) rule_owned settings i item _ rows c.loop-setting-test.true c.loop-setting.invariant.0 (subst (λ setting. AreRows c.args.effective.now c.args.tells_hidden setting rows) told are_rows)),
+      rw pushed (zip_more (AreRows c.args.effective.now c.args.shows_hidden) rule_owned settings i item _ rows c.loop-setting-test.true c.loop-setting.invariant.0 (subst (λ setting. AreRows c.args.effective.now c.args.shows_hidden setting rows) told are_rows)),
       rw added_too
           (list_more (AreFaultsOf c.args.effective.now (words_of c.in_ok-names.names.items)) rule_owned settings i item _ added c.loop-setting-test.true c.loop-setting.invariant.1
           (subst (λ setting. AreFaultsOf c.args.effective.now (words_of c.in_ok-names.names.items) setting added) told (subst (λ names. AreFaultsOf c.args.effective.now names (rule_of c.lent.result) added) names are_faults))),

@@ -10,5 +10,5 @@ use Rattle.nextest_config_profiles.proofs.report.profile_report.settings_report.
 -- the settings so far
 abbrev pub invariant-loop-setting : goal.invariant-loop-setting
 invariant-loop-setting l =
-    AllZip (AreRows l.fn.effective l.fn.tells_hidden) (map rule_owned (take l.setting-index l.setting-items)) (map (λ rows. rows.items) l.report.rows.items)
+    AllZip (AreRows l.fn.effective l.fn.shows_hidden) (map rule_owned (take l.setting-index l.setting-items)) (map (λ rows. rows.items) l.report.rows.items)
     × AreLists (AreFaultsOf l.fn.effective (words_of l.names.items)) (map rule_owned (take l.setting-index l.setting-items)) l.report.faults.items

@@ -1,7 +1,8 @@
 use Rattle.std.proofs.Common.{◌∙◌, ◌++◌, [], ap, map}
 use Rattle.nextest_config_elements.specs.Fields.{fields_view}
-use Rattle.nextest_config_profiles.proofs.Settings.{one_table_more}
+use Rattle.nextest_config_profiles.proofs.Settings.{no_table_more, one_table_more}
 use Rattle.nextest_config_profiles.specs.Report.Setting.{rule_owned, settings_at, settings_below}
+use Rattle.nextest_config_profiles.proofs.report.setting.all_settings.Goals.{else-not-is_empty, then-not-is_empty+in_ok-push_settings-2}
 use Rattle.nextest_config_profiles.proofs.report.setting.all_settings.Goals as goal
 
 pub loop-field-init : goal.loop-field-init
@@ -12,5 +13,10 @@ loop-field-init c =
 
 pub loop-field-preserved : goal.loop-field-preserved
 loop-field-preserved c =
-    one_table_more c.profile_fields-fields.result.now c.loop-field.field-index _ _ _ _ _ c.loop-field-test.true c.table_fields.ensures c.in_ok-push_settings-2.ensures
-    c.loop-field.invariant
+    elim c.if-not-is_empty.branch [
+      | then-not-is_empty+in_ok-push_settings-2 w ↦ rw w.settings-is
+          (one_table_more c.profile_fields-fields.result.now c.loop-field.field-index _ _ _ _ _ c.loop-field-test.true c.table_fields-inner.ensures w.in_ok-push_settings-2.ensures c.loop-field.invariant)
+      | else-not-is_empty w ↦ rw w.settings-is
+          (no_table_more c.profile_fields-fields.result.now c.loop-field.field-index _ _ _ c.table_fields-inner.result.now c.is_empty.result c.loop-field-test.true c.table_fields-inner.ensures
+          c.is_empty.ensures w.if-not-is_empty.false c.loop-field.invariant)
+    ]

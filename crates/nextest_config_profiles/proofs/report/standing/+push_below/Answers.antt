@@ -9,4 +9,4 @@ pub returns : goal.returns
 returns n c =
     let layers = layers_in c.args.effective.now in
     let keys = words_of c.args.keys.now in
-    layer_more (hidden_below layers c.args.profile.now keys) (hidden_in layers c.args.profile.now keys) (λ n. refl) c.args.layers (c.args.layers - 1) (omega (arith, c.if-layers-eq0.false)) _ _ _ c.in_ok-push_in.ensures c.in_ok-push_below.ensures
+    layer_more (hidden_below layers c.args.profile.now keys) (hidden_in layers c.args.profile.now keys) (λ n. refl) c.args.layers (c.args.layers - 1) (omega (arith, c.if-layers-eq0.false)) _ _ _ (rw c.reach-reached.ensures at c.in_ok-push_reached.ensures) c.in_ok-push_below.ensures

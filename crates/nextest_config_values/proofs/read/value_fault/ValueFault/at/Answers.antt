@@ -1,4 +1,4 @@
-use Rattle.std.proofs.Common.{◌≡◌, ℕ, List, Option, Some, None, map, option_map, refl, string_bytes}
+use Rattle.std.proofs.Common.{◌≡◌, ℕ, List, Option, Some, None, map, option_map, refl, string_bytes, rules}
 use Rattle.std.specs.Prelude.{IfSome}
 use Rattle.nextest_config_values.specs.Read.{Cause, cause_of, fault_with, FaultOrMemory, path_along, PathStep, Reason, reason_at, reason_of, step_of, TellsAs, TellsMemory, read_fault_at, read_fault_with}
 use Rattle.nextest_config_values.specs.declared.read.fault.FaultKind.{FaultKind}
@@ -10,16 +10,14 @@ use Rattle.nextest_config_values.proofs.read.value_fault.ValueFault.at.Goals as 
 of_reason : (path : List ℕ) (cause : Cause) (reason : Option Reason) (kind : Type 0) (told : ReadFault)
     → FaultOrMemory reason kind (λ one. one ≡ reason_at path cause) → FaultOrMemory reason (TellsMemory told) (λ one. TellsAs (read_fault_with path one) told)
     → TellsAs (read_fault_with path (reason_at path cause)) told
-of_reason path cause (Some one) kind told is tells = rw is at tells
-of_reason path cause None kind told is memory = rw memory.1 (memory.0, refl)
+of_reason path cause reason kind told is tells = search rules
 
 -- what is told of a cause is told of the fault with these steps
 of_steps : (at path : List ℕ) (steps : List PathStep) (cause : Option Cause) (kind : FaultKind) (told : ReadFault) → path ≡ path_along at steps
     → IfSome cause (λ k. FaultOrMemory (reason_of kind) (kind ≡ Memory) (λ reason. reason ≡ reason_at path k))
     → FaultOrMemory (reason_of kind) (TellsMemory told) (λ reason. TellsAs (read_fault_with path reason) told)
     → IfSome (option_map (fault_with steps) cause) (λ fault. TellsAs (read_fault_at at fault) told)
-of_steps at path steps None kind told is said tells = tt
-of_steps at path steps (Some k) kind told is said tells = rw is at (of_reason path k (reason_of kind) (kind ≡ Memory) told said tells)
+of_steps at path steps cause kind told is said tells = search rules
 
 pub returns-in-Ok-clause-told : goal.returns-in-Ok-clause-told
 returns-in-Ok-clause-told c =

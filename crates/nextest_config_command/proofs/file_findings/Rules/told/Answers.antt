@@ -1,9 +1,0 @@
-use Rattle.std.proofs.Common.{◌≡◌, [], rules, sym}
-use Rattle.std.proofs.lemmas.List.{nil_from_length}
-use Rattle.nextest_config_command.proofs.LintStatus.{all_told}
-use Rattle.nextest_config_command.proofs.file_findings.Rules.told.Goals as goal
-
-pub returns-then-is_empty : goal.returns-then-is_empty
-returns-then-is_empty c =
-    let none : c.args.self.now.allowed.now ≡ [] = nil_from_length c.args.self.now.allowed.now (search rules) in
-    rw none (sym (all_told c.args.self.now.edition c.args.self.now.tells_refusals c.args.all.items))

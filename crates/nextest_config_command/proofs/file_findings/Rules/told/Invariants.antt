@@ -1,8 +1,0 @@
-use Rattle.std.proofs.Common.{◌≡◌}
-use Rattle.std.specs.List.{filter}
-use Rattle.nextest_config_command.specs.FileFindings.{judging_of, tells}
-use Rattle.nextest_config_command.proofs.file_findings.Rules.told.Given as goal
-
--- those of the findings so far that are told
-abbrev pub invariant-loop-located : goal.invariant-loop-located
-invariant-loop-located l = l.told.items ≡ filter (tells (judging_of l.fn.self)) l.yielded

@@ -1,5 +1,0 @@
-use Rattle.std.proofs.Common.{length}
-use Rattle.nextest_config_output.proofs.profile.line.+mark_of_unset.Given as goal
-
-abbrev pub decreases-mark_of_unset : goal.decreases-mark_of_unset
-decreases-mark_of_unset l = length l.keys.now
