@@ -1,4 +1,4 @@
-// An allocator that refuses requests for memory, to be preloaded by tests/refusals.
+// An allocator that refuses requests for memory, and streams of which a call is odd, to be preloaded by tests/refusals.
 //
 // REFUSE_FROM=N   counts requests from 1, and refuses each from the Nth on
 // REFUSE_ONCE=1   refuses the Nth alone
@@ -6,6 +6,8 @@
 //                 `call` and `answer` that it writes to standard output, each in one write
 // REFUSE_TOLD=FD  at the end writes there how many requests were counted, how many refused, and how many
 //                 blocks that were taken from the first instruction on haven't been freed
+// ODD_STREAM=FD   has each call of this stream take or give one byte at most, and the call ODD_CALL=N, counted from 0,
+//                 none, or fail with the number ODD_ERROR=N
 
 #include <errno.h>
 #include <limits.h>
@@ -24,9 +26,9 @@ void __libc_free(void *block);
 enum window { BEFORE, WITHIN, BEHIND };
 
 static enum window window = BEFORE;
-static unsigned long from, counted, refused;
+static unsigned long from, counted, refused, odd_call, calls;
 static long kept;
-static int once, told = -1;
+static int once, told = -1, odd_stream = -1, odd_error;
 
 static unsigned long setting(const char *name, unsigned long otherwise) {
     const char *text = getenv(name);
@@ -37,6 +39,9 @@ __attribute__((constructor)) static void begin(void) {
     from = setting("REFUSE_FROM", ULONG_MAX);
     once = setting("REFUSE_ONCE", 0) != 0;
     told = (int)setting("REFUSE_TOLD", 2);
+    odd_stream = (int)setting("ODD_STREAM", ULONG_MAX);
+    odd_call = setting("ODD_CALL", 0);
+    odd_error = (int)setting("ODD_ERROR", 0);
     if (setting("REFUSE_WHOLE", 0))
         window = WITHIN;
 }
@@ -108,10 +113,28 @@ static int is_line(const void *bytes, size_t length, const char *line) {
     return length == strlen(line) && memcmp(bytes, line, length) == 0;
 }
 
+// How much of this a call of a stream may take or give: -1 where it fails.
+static ssize_t limit(int file, size_t length) {
+    if (file != odd_stream)
+        return (ssize_t)length;
+    if (calls++ != odd_call)
+        return length > 0;
+    errno = odd_error;
+    return odd_error ? -1 : 0;
+}
+
+ssize_t read(int file, void *bytes, size_t length) {
+    ssize_t most = limit(file, length);
+    return most < 0 ? most : syscall(SYS_read, file, bytes, (size_t)most);
+}
+
 ssize_t write(int file, const void *bytes, size_t length) {
+    ssize_t most = limit(file, length);
+    if (most < 0 || (most == 0 && length > 0))
+        return most;
     if (file == STDOUT_FILENO && window == WITHIN && is_line(bytes, length, "answer\n"))
         window = BEHIND;
-    ssize_t written = syscall(SYS_write, file, bytes, length);
+    ssize_t written = syscall(SYS_write, file, bytes, (size_t)most);
     if (file == STDOUT_FILENO && window == BEFORE && is_line(bytes, length, "call\n"))
         window = WITHIN;
     return written;

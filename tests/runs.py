@@ -1,4 +1,4 @@
-"""What the random runs have in common: their words, their rounds, and what they print."""
+"""What runs have in common: their words, their rounds, what they print, and the rows of program-rows.txt."""
 
 import argparse
 import collections
@@ -6,9 +6,12 @@ import concurrent.futures
 import os
 import pathlib
 import random
+import shlex
 import sys
 
 LONGEST = 3000
+ROWS = pathlib.Path(__file__).parent / "program-rows.txt"
+SIGNS = str.maketrans({"¶": "\n", "←": "\r", "→": "\t", "§": "\ufeff"})
 
 
 class Failed(Exception):
@@ -34,6 +37,17 @@ def parse_options(script, what, count):
     given = options.parse_args()
     given.numbers = range(given.count) if given.only is None else [given.only]
     return given
+
+
+def program_rows():
+    """The rows of program-rows.txt: of each its name, its words, its input, and how it ends: its status and its outputs."""
+    rows = []
+    for line in ROWS.read_text().split("\n"):
+        if line and not line.startswith("#"):
+            name, words, given, status, answer = ("" if it == "-" else it.translate(SIGNS) for it in line.split(" | "))
+            output, errors = ("", answer[2:]) if answer.startswith("! ") else (answer, "")
+            rows.append((name, shlex.split(words), given.encode(), (int(status), output.encode(), errors.encode())))
+    return rows
 
 
 def run_all(calls):

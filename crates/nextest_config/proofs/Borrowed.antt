@@ -1,9 +1,8 @@
 -- What is read of borrowed sources, as what is read of what is given.
-use Rattle.std.proofs.Common.{List, [], ◌∷◌, map, Option, Some, None, sym, ◌∙◌, rules}
+use Rattle.std.proofs.Common.{List, [], ◌∷◌, map, Option, rules}
 use Rattle.nextest_config.specs.Merge.{IsJoinOfPieces, IsRefusalOfPieces}
-use Rattle.nextest_config.specs.NextestVersion.{Ask, under, AreDocumentsOf, AreGivenAs, Configuration, configuration_of, document_members, document_place, IsConfigurationOf, IsDocumentOf, IsErrorOf, IsErrorOfBorrowed, IsErrorOfDocument, IsGivenAs, IsRefusedReading, join_configurations, neutral_seen, Refusal, refusal_of, seen_configuration, StandsForBorrowed, StandsForDocument, StandsForOne}
+use Rattle.nextest_config.specs.NextestVersion.{under, AreDocumentsOf, AreGivenAs, configuration_of, IsConfigurationOf, IsErrorOf, IsErrorOfBorrowed, IsGivenAs, IsRefusedReading, join_configurations, neutral_seen, Refusal, refusal_of, seen_configuration, StandsForBorrowed, StandsForOne}
 use Rattle.nextest_config.specs.NextestVersion.Source.{Given}
-use Rattle.nextest_config.specs.NextestVersion.VersionOnlyDeserialize.{TableAsks, TextAsks}
 use Rattle.nextest_config.proofs.Halves.{same_join, same_refusal}
 use Rattle.nextest_config.proofs.Readings.{refusal_of_list, refused_reading}
 use Rattle.nextest_config.proofs.Selection.{configured}
@@ -17,15 +16,6 @@ use Rattle.nextest_config.specs.declared.nextest_version.document.SourceDocument
 use Rattle.nextest_config.specs.declared.nextest_version.error.ConfigParseError.{ConfigParseError}
 
 -- ---- one source
-
-document_asks : (edition : Edition) (given : Given) (document : SourceDocument) (ask : Ask) → IsDocumentOf given document → TableAsks edition (document_place document).kind (document_members document) ask → TextAsks edition given.place.kind given.contents ask
-document_asks edition given document ask is asks = rw (is.contents, is.place) (document_members document, is.read, asks)
-
-document_stands : (edition : Edition) (given : Given) (document : SourceDocument) (c : Configuration) → IsDocumentOf given document → StandsForDocument edition document c → StandsForOne (under edition given) c
-document_stands edition given document c is h5 = search rules
-
-document_wrong : (edition : Edition) (given : Given) (document : SourceDocument) (told : Option Refusal) → IsDocumentOf given document → IsErrorOfDocument edition document told → IsErrorOf (under edition given) told
-document_wrong edition given document told is wrong = search rules
 
 module _ (edition : Edition) where
   given_stands : (given : Given) (source : BorrowedSource) (it : SourcesConfig) → IsGivenAs given source → StandsForBorrowed edition source (configuration_of it.config) → StandsForOne (under edition given) (configuration_of it.config)

@@ -1,10 +1,8 @@
 -- When a current version is enough, by its numbers.
-use Rattle.std.proofs.Common.{◌≡◌, ℕ, ◌<◌, ◌↔◌, ◌⊎◌, Bool, true, false, not, List, [], ◌∷◌, length, refl, sym, inl, inr, ⊎_elim, arith, nat_cmp, rules}
-use Rattle.std.proofs.lemmas.Bool.{cases_order, false≢true, ne_eqb}
-use Rattle.std.specs.Cmp.{nat_cmp_is}
+use Rattle.std.proofs.Common.{◌≡◌, ℕ, ◌<◌, ◌↔◌, ◌⊎◌, Bool, true, not, List, [], ◌∷◌, length, refl, arith, nat_cmp, rules}
+use Rattle.std.proofs.lemmas.Bool.{false≢true, ne_eqb}
 use Rattle.std.specs.Ordering.{is_lt, ordering_then}
 use Rattle.std.specs.declared.cmp.Ordering.{Ordering}
-use Rattle.std.specs.declared.cmp.Ordering.TheVariants.{Less, Equal, Greater}
 use Rattle.semver.specs.Order.{pre_cmp}
 use Rattle.semver.specs.OrderLaws.{pre_cmp-right}
 use Rattle.semver.specs.Parse.{Parts}

@@ -1,5 +1,5 @@
 -- The features that an array and a table name, and the names of both sets.
-use Rattle.std.proofs.Common.{◌≡◌, ◌↔◌, ◌⊎◌, ◌++◌, ℕ, ◌+◌, ◌<◌, ◌≤◌, ◌==◌, Bool, true, false, cond, List, [], ◌∷◌, length, map, get_or, Contains, Option, Some, None, IsSome, String, Global, Ordering, Less, Equal, Greater, Bor, string_bytes, nat_cmp, refl, sym, ap, subst, ◌∙◌, inl, inr, ⊎_elim, arith, rules}
+use Rattle.std.proofs.Common.{◌≡◌, ◌↔◌, ◌⊎◌, ◌++◌, ℕ, ◌+◌, ◌<◌, ◌≤◌, ◌==◌, Bool, true, false, cond, List, [], ◌∷◌, length, map, get_or, Contains, Option, Some, IsSome, String, Global, Ordering, Less, Equal, Greater, Bor, string_bytes, nat_cmp, refl, sym, ap, subst, ◌∙◌, inl, inr, ⊎_elim, arith, rules}
 use mathlib.Core.List.{map-map}
 use mathlib.Core.Logic.{⊎_map}
 use mathlib.Core.Logic.Iff as iff
@@ -8,7 +8,6 @@ use Rattle.std.proofs.lemmas.Bool.{cases_lt, false≢true}
 use Rattle.std.proofs.lemmas.Cmp.{nat_list_cmp_total}
 use Rattle.std.proofs.lemmas.List.{append-nil, map-append}
 use Rattle.std.specs.List.{AllByRecursion}
-use Rattle.std.proofs.lemmas.Option.{same_Some}
 use Rattle.std.proofs.lemmas.Map.Lookups.{exact_bytes}
 use Rattle.std.proofs.lemmas.Map.Made.{Contains-tail}
 use Rattle.std.specs.Cmp.{tied_itself}

@@ -1,18 +1,16 @@
 -- A list of sources has one selected verdict, and none less grave where a source is added.
-use Rattle.std.proofs.Common.{rules, ◌≡◌, ℕ, ◌<◌, ◌≤◌, Bool, List, [], ◌∷◌, ◌++◌, map, Option, Some, None, IfSome, ◌⊎◌, refl, sym, ap, ◌∙◌, inl, inr, subst, arith}
+use Rattle.std.proofs.Common.{rules, ◌≡◌, ℕ, ◌≤◌, Bool, List, [], ◌∷◌, ◌++◌, map, Option, Some, IfSome, refl, sym, ◌∙◌, inl, inr, subst, arith}
 use Rattle.std.specs.List.{AllByRecursion}
 use Rattle.semver.specs.Parse.{Parts}
-use Rattle.toml.specs.Data.{Data, Members, as_str, as_table, get_member}
-use Rattle.nextest_config_values.specs.Read.{either, optional}
+use Rattle.toml.specs.Data.{Data}
 use Rattle.nextest_config.specs.NextestVersion.Source.{Source}
 use Rattle.nextest_config.specs.NextestVersion.Verdict.{Verdict}
-use Rattle.nextest_config.specs.NextestVersion.{Ask, AsksVersions, IsBelow, in_order, IsEnoughByNumbers, Numbers, plain, recommended_key, required_key, TextAsks, version_key, version_reading, version_table, Versions, versions, versions_reading, alone, AreRead, gravity, IsGravest, IsNoGraver, IsNoGreaterOfItsKind, IsOtherOfItsKind, IsSatisfied, IsSelected, IsSelectedFor, Kept, named_version, NamesNoGreater, not_met, role_from, SourceAsk, verdict_by}
+use Rattle.nextest_config.specs.NextestVersion.{Ask, IsBelow, Numbers, plain, TextAsks, version_reading, Versions, alone, AreRead, gravity, IsGravest, IsNoGraver, IsNoGreaterOfItsKind, IsOtherOfItsKind, IsSatisfied, IsSelected, IsSelectedFor, Kept, named_version, NamesNoGreater, not_met, role_from, SourceAsk, verdict_by}
 use Rattle.nextest_config.specs.NextestVersion.VersionOnlyLaws.{read_once}
 use Rattle.toml_spans.proofs.Elements.{one_last}
 use Rattle.nextest_config.proofs.Lists.{all_mapped}
 use Rattle.nextest_config.specs.declared.nextest_version.edition.Edition.{Edition}
 use Rattle.nextest_config.specs.declared.nextest_version.source.ConfigSourceKind.{ConfigSourceKind}
-use Rattle.nextest_config.proofs.Enough.{not_below_by_numbers}
 use Rattle.nextest_config.proofs.Verdicts.{all_unmapped, no_graver_than_all, none_graver, stands_in, unmet_alone}
 
 -- ---- sources ask one thing
@@ -34,28 +32,8 @@ pub record AsksPlain (versions : Versions) : Type 0 where
   pub of_required : IsPlainVersion versions.required
   pub of_recommended : IsPlainVersion versions.recommended
 
--- what holds of all that is meant either way
-either_all : {K X : Type 0} (Holds : X → Type 0) (means : K → X → Type 0) (other : X → Type 0) → ((k : K) (x : X) → means k x → Holds x) → ((x : X) → other x → Holds x) → (found : Option K) (x : X) → either found means other x → Holds x
-either_all Holds means other says else_says (Some k) = says k
-either_all Holds means other says else_says None = else_says
-
 version_plain : (value : Data) (version : Parts) → version_reading.means value version → IsPlainVersion (Some version)
 version_plain value version h = search rules
-
-role_plain : (key : List ℕ) (table : Members) (asked : Option Parts) → (optional key version_reading).means table asked → IsPlainVersion asked
-role_plain key table = either_all IsPlainVersion _ _ (λ value asked h. rw h.2 (version_plain value h.0 h.1)) (λ asked h. rw h tt) (get_member key table)
-
-in_order_are : (required recommended : Option Parts) (asked : Versions) → (in_order required recommended).means tt asked → asked ≡ versions required recommended
-in_order_are required recommended asked h = search rules
-
-table_plain : (table : Members) (asked : Versions) → version_table.means table asked → AsksPlain asked
-table_plain h0 asked h2 = search rules
-
-value_plain : (value : Data) (asked : Versions) → versions_reading.means value asked → AsksPlain asked
-value_plain value = either_all AsksPlain _ _ (λ text asked h. rw h.2 (record { of_required = (h.1.0, h.1.2); of_recommended = tt })) (either_all AsksPlain _ _ table_plain (λ asked h. absurd h) (as_table value)) (as_str value)
-
-asked_plain : (table : Members) (asked : Versions) → AsksVersions table asked → AsksPlain asked
-asked_plain table = either_all AsksPlain _ _ value_plain (λ asked h. rw h (record { of_required = tt; of_recommended = tt })) (get_member version_key table)
 
 pub text_plain : (edition : Edition) (kind : ConfigSourceKind) (contents : Option (List ℕ)) (ask : Ask) → TextAsks edition kind contents ask → AsksPlain ask.versions
 text_plain edition kind contents ask h = search rules
@@ -84,12 +62,6 @@ selected_plain asked current overridden v h (inr gravest) =
     stands_in NamesPlain _ v gravest (all_mapped IsPlainAsked NamesPlain (alone current overridden) (λ a is. judged_plain current overridden a _ _ is refl refl) asked h)
 
 -- ---- versions with numbers alone that aren't below each other are one
-
-neither_greater : (x y : ℕ) (P Q : Type 0) → (y < x) ⊎ ((x ≡ y) × P) → (x < y) ⊎ ((y ≡ x) × Q) → (x ≡ y) × (P × Q)
-neither_greater x y P Q h k = search (rules, arith)
-
-same_numbers : (m n : Numbers) → IsEnoughByNumbers (plain m) n → IsEnoughByNumbers (plain n) m → m ≡ n
-same_numbers m n h k = search rules
 
 pub same_version : (v w : Parts) → IsPlainVersion (Some v) → IsPlainVersion (Some w) → ¬ IsBelow v w → ¬ IsBelow w v → v ≡ w
 same_version v w p q above below = search rules

@@ -3,7 +3,7 @@ use Rattle.std.proofs.Common.{rules, ◌≡◌, ℕ, List, ◌∷◌, map, Optio
 use Rattle.std.proofs.lemmas.List.{length-map, map-append}
 use Rattle.nextest_config.specs.NextestVersion.Source.{Source}
 use Rattle.nextest_config.specs.Merge.{IsFirstWrong, IsRefusalOfOne, IsRefusalOfPieces}
-use Rattle.nextest_config.specs.NextestVersion.{IsWrong, IsWrongTable, RefusesSource, Wrong, wrong_of, AreRead, Configuration, document_members, document_place, IsErrorOf, IsErrorOfDocument, IsErrorOfReading, IsFirstRefused, IsKindOf, IsRefusalOf, IsRefusedReading, IsRefusedSo, Reads, Refusal, refusal_at, refusal_of, StandsForOne}
+use Rattle.nextest_config.specs.NextestVersion.{IsWrong, IsWrongTable, RefusesSource, Wrong, wrong_of, AreRead, Configuration, document_members, document_place, IsErrorOf, IsErrorOfDocument, IsFirstRefused, IsKindOf, IsRefusalOf, IsRefusedReading, IsRefusedSo, Reads, Refusal, refusal_at, refusal_of, StandsForOne}
 use Rattle.nextest_config.specs.declared.merge.PieceRefusal.{PieceRefusal}
 use Rattle.nextest_config.specs.declared.merge.PieceRefusal.TheVariants as pieces
 use Rattle.nextest_config.specs.declared.nextest_version.document.SourceDocument.{SourceDocument}
@@ -62,7 +62,3 @@ module _ {X Y : Type 0} (source_of : X → Source) (configuration_of : Y → Con
 pub refused_reading : (sources : List Source) (r : PieceRefusal ConfigParseError) → IsRefusalOf sources r → IsRefusedReading sources r
 refused_reading sources (pieces.Refused position error) first = record { only = λ reads. absurd (reads_not_refused sources position first.0 reads first.2); refused = first }
 refused_reading sources pieces.Memory first = record { only = λ reads. refl; refused = first }
-
--- a refused reading without its position
-pub error_of_reading : (sources : List Source) (position : ℕ) (error : ConfigParseError) → IsRefusedReading sources (pieces.Refused position error) → IsErrorOfReading sources error
-error_of_reading sources position error reading = search rules

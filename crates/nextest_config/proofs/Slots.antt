@@ -57,9 +57,6 @@ no_slots (suc n) = ap (λ slots. None ∷ slots) (no_slots n)
 
 -- ---- a source that is put into a slot
 
-pub from_in : (slot : ℕ) (asked : Option Version) → IsFrom slot (option_map (slot_version slot) asked)
-from_in slot asked = search rules
-
 same_version : (slot : ℕ) (asked : Option Version) → IsPlainVersion (option_map parts_of asked) → option_map version_at (option_map (slot_version slot) asked) ≡ option_map parts_of asked
 same_version slot asked plain = search rules
 

@@ -1,16 +1,11 @@
-//! Standard input, read by one library alone.
+//! A text, read by one library alone.
 
 use nextest_config_values::duration::parse_duration;
 use std::alloc::Global;
-use std::io::{Input, Read};
-use std::str;
 
-pub(crate) fn read(rt: &HostRuntime, what: &str) -> Option<()> {
-    let mut input = Vec::new(rt.alloc());
-    rt.reader().read_to_end(&mut input).ok()?;
-    let text = str::from_utf8(&input).ok()?;
+pub(crate) fn read(alloc: Global, what: &str, text: &str) -> Option<()> {
     match what {
-        "toml" => read_documents(rt.alloc(), text),
+        "toml" => read_documents(alloc, text),
         "duration" if parse_duration(text).is_ok() => Some(()),
         _ => None,
     }

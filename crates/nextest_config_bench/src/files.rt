@@ -1,18 +1,15 @@
-//! Standard input, judged as the configuration file of a repository.
+//! Bytes, judged as the configuration file of a repository.
 
 use nextest_config::nextest_version::{ConfigSourceKind, Edition};
 use nextest_config_lint::{Defined, FileContents, findings};
 use std::alloc::{AllocError, Global};
-use std::io::{Input, Read};
 use std::str;
 
 /// Prints how much is found, in the document alone or in the file with its lines.
-pub(crate) fn judge(rt: &HostRuntime, what: &str) -> Option<()> {
-    let mut contents = Vec::new(rt.alloc());
-    rt.reader().read_to_end(&mut contents).ok()?;
+pub(crate) fn judge(rt: &HostRuntime, what: &str, contents: &[u8]) -> Option<()> {
     let count = match what {
-        "findings" => in_document(rt.alloc(), &contents)?,
-        "located" => in_file(rt.alloc(), &contents).ok()?,
+        "findings" => in_document(rt.alloc(), contents)?,
+        "located" => in_file(rt.alloc(), contents).ok()?,
         _ => return None,
     };
     println!(rt; "{count}").ok()

@@ -8,8 +8,8 @@
 //! - `places` prints, of each document on standard input, where all that it holds stands. A NUL stands
 //!   between two documents, and a blank line after each.
 //! - `documents` reads the documents on standard input with `toml` alone, a NUL between two of them;
-//!   `indexes` makes the partial index of each, too, which has the profiles at hand by which `ci` is
-//!   told, and `profile` then asks for the settings that `ci` gets of them, as files of one list.
+//!   `indexes` makes the index of each, too, and `profile` then asks for the settings that `ci` gets of
+//!   them, as files of one list.
 //! - `leaves` prints, of each such list on standard input, what it has below `profile` over what nextest
 //!   sets itself: of each leaf its path, the number of the layer that it comes from, where that has it,
 //!   and its value. U+0001 stands between two lists, and a blank line after each.
@@ -29,8 +29,9 @@ mod nothing;
 mod positions;
 mod profiles;
 
-use std::env;
+use std::io::{Input, Read};
 use std::process::ExitCode;
+use std::{env, str};
 
 fn main(rt: HostRuntime) -> ExitCode {
     match run(&rt) {
@@ -42,16 +43,26 @@ fn main(rt: HostRuntime) -> ExitCode {
 fn run(rt: &HostRuntime) -> Option<()> {
     let words: Vec<String> = env::args(rt).ok()?.skip(1).collect(rt.alloc()).ok()?;
     match words.as_slice() {
-        [what] => match what.as_str() {
-            "findings" | "located" => files::judge(rt, what),
-            "text" | "document" | "index" | "places" => positions::run(rt, what),
-            "documents" | "indexes" | "profile" | "leaves" => profiles::run(rt, what),
-            _ => alone::read(rt, what),
-        },
+        [what] => measure(rt, what.as_str()),
         [what, size, changes] => {
             board::run(rt.alloc(), what, size.parse().ok()?, changes.parse().ok()?)
         }
         [what, of, given, size] => nothing::run(rt.alloc(), what, of, given, size.parse().ok()?),
         _ => None,
+    }
+}
+
+// What is done with standard input.
+fn measure(rt: &HostRuntime, what: &str) -> Option<()> {
+    let mut input = Vec::new(rt.alloc());
+    rt.reader().read_to_end(&mut input).ok()?;
+    if matches!(what, "findings" | "located") {
+        return files::judge(rt, what, &input);
+    }
+    let text = str::from_utf8(&input).ok()?;
+    match what {
+        "text" | "document" | "index" | "places" => positions::run(rt, what, text),
+        "documents" | "indexes" | "profile" | "leaves" => profiles::run(rt, what, text),
+        _ => alone::read(rt.alloc(), what, text),
     }
 }

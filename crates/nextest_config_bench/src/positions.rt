@@ -1,10 +1,8 @@
 //! Where the keys and the values of documents stand.
 
 use std::alloc::{AllocError, Global};
-use std::io::{Input, Read};
-use std::str;
 use toml::{Table, Value};
-use toml_spans::{Index, Place, Span, Step};
+use toml_spans::{Index, Span, Step};
 
 // The document that is asked, what is known of it, and the runtime.
 #[derive(Drop)]
@@ -14,27 +12,14 @@ struct Asked<'t> {
     index: &'t Index,
 }
 
-pub(crate) fn run(rt: &HostRuntime, what: &str) -> Option<()> {
-    let mut input = Vec::new(rt.alloc());
-    rt.reader().read_to_end(&mut input).ok()?;
-    let text = str::from_utf8(&input).ok()?;
+pub(crate) fn run(rt: &HostRuntime, what: &str, text: &str) -> Option<()> {
     match what {
         "text" => Some(()),
-        "document" => read(rt.alloc(), text),
-        "index" => place(rt.alloc(), text),
+        "document" => toml::table_from_str(rt.alloc(), text).ok().map(|_| ()),
+        "index" => Index::of(rt.alloc(), text).ok()?.map(|_| ()),
         "places" => print_documents(rt, text),
         _ => None,
     }
-}
-
-fn read(alloc: Global, text: &str) -> Option<()> {
-    toml::table_from_str(alloc, text).ok()?;
-    Some(())
-}
-
-fn place(alloc: Global, text: &str) -> Option<()> {
-    Index::of(alloc, text).ok()??;
-    Some(())
 }
 
 fn print_documents(rt: &HostRuntime, text: &str) -> Option<()> {
@@ -152,15 +137,16 @@ fn print_path(asked: &Asked<'_>, path: &[Step]) -> Option<()> {
 fn print_steps(rt: &HostRuntime, path: &[Step]) -> Option<()> {
     for step in path {
         match step {
-            Step::Key(key) => print_key(rt, key.as_str())?,
+            Step::Key(key) => print_key(rt, "/k", key.as_str())?,
             Step::Index(index) => print!(rt; "/{index}").ok()?,
         }
     }
     Some(())
 }
 
-fn print_key(rt: &HostRuntime, key: &str) -> Option<()> {
-    print!(rt; "/k").ok()?;
+/// Prints a mark, and behind it the bytes of a key.
+pub(crate) fn print_key(rt: &HostRuntime, mark: &str, key: &str) -> Option<()> {
+    print!(rt; "{mark}").ok()?;
     for byte in key.bytes() {
         print!(rt; "{byte:02x}").ok()?;
     }
@@ -198,12 +184,11 @@ fn has_place(index: &Index, path: &[Step]) -> bool {
     index.key(path).is_some() || index.value(path).is_some()
 }
 
-// Ends the line, with a word before unless the text at a value's place is read as the value.
+// Ends the line, with a word before unless the bytes of a value are read as the value.
 fn print_value(asked: &Asked<'_>, path: &[Step], value: &Value) -> Option<()> {
     let rt = asked.rt;
-    if let Some(span) = asked.index.value(path) {
-        let piece = cut(rt.alloc(), asked.text, span).ok()?;
-        if !is_read_as(rt.alloc(), piece.as_str(), value)? {
+    if let Some(bytes) = asked.index.value_bytes(path) {
+        if !is_read_as(rt.alloc(), asked.text.get(bytes)?, value)? {
             print!(rt; " another value").ok()?;
         }
     }
@@ -219,32 +204,5 @@ fn is_read_as(alloc: Global, text: &str, value: &Value) -> Option<bool> {
             Some(read == value)
         }
         Err(_) => Some(false),
-    }
-}
-
-// What stands between two places of a text.
-fn cut(alloc: Global, text: &str, span: Span) -> Result<String, AllocError> {
-    let mut piece = String::new(alloc);
-    let mut place = Place { line: 1, column: 1 };
-    for character in text.chars() {
-        if span.begin <= place && place < span.end {
-            piece.push(character)?;
-        }
-        place = behind(place, character);
-    }
-    Ok(piece)
-}
-
-fn behind(place: Place, character: char) -> Place {
-    if character == '\n' {
-        Place {
-            line: place.line.saturating_add(1),
-            column: 1,
-        }
-    } else {
-        Place {
-            line: place.line,
-            column: place.column.saturating_add(1),
-        }
     }
 }

@@ -1,30 +1,11 @@
 //! What profiles get of lists of files.
 
+use crate::positions::print_key;
 use nextest_config::nextest_version::{ConfigSource, ConfigSourceKind};
-use nextest_config_profiles::{EffectiveProfile, Layer, LayerValue};
+use nextest_config_profiles::{EffectiveProfile, Layer, LayerValue, setting_keys};
 use std::alloc::{AllocError, Global};
-use std::io::{Input, Read};
-use std::str;
 use toml::{Table, Value};
 use toml_spans::{Index, Span};
-
-const SETTINGS: [&str; 15] = [
-    "retries",
-    "flaky-result",
-    "threads-required",
-    "fail-fast",
-    "slow-timeout",
-    "leak-timeout",
-    "global-timeout",
-    "junit.path",
-    "junit.report-name",
-    "junit.store-success-output",
-    "junit.store-failure-output",
-    "junit.report-skipped",
-    "junit.flaky-fail-status",
-    "bench.slow-timeout",
-    "bench.global-timeout",
-];
 
 // A document with the index of its places.
 #[derive(Drop)]
@@ -34,22 +15,14 @@ struct File {
     index: Index,
 }
 
-pub(crate) fn run(rt: &HostRuntime, what: &str) -> Option<()> {
-    let mut input = Vec::new(rt.alloc());
-    rt.reader().read_to_end(&mut input).ok()?;
-    let text = str::from_utf8(&input).ok()?;
+pub(crate) fn run(rt: &HostRuntime, what: &str, text: &str) -> Option<()> {
     match what {
-        "documents" => read(rt.alloc(), text),
-        "indexes" => place(rt.alloc(), text),
+        "documents" => documents(rt.alloc(), text).map(|_| ()),
+        "indexes" => files(rt.alloc(), text).map(|_| ()),
         "profile" => ask(rt.alloc(), text),
         "leaves" => print_lists(rt, text),
         _ => None,
     }
-}
-
-fn read(alloc: Global, list: &str) -> Option<()> {
-    documents(alloc, list)?;
-    Some(())
 }
 
 fn documents(alloc: Global, list: &str) -> Option<Vec<Table>> {
@@ -60,11 +33,6 @@ fn documents(alloc: Global, list: &str) -> Option<Vec<Table>> {
             .ok()?;
     }
     Some(documents)
-}
-
-fn place(alloc: Global, list: &str) -> Option<()> {
-    files(alloc, list)?;
-    Some(())
 }
 
 // The documents with their indexes.
@@ -126,20 +94,13 @@ fn ask_settings(
     profile: &EffectiveProfile<'_>,
     name: &str,
 ) -> Result<(), AllocError> {
-    for setting in &SETTINGS {
-        ask_setting(alloc, profile, path_of(alloc, name, setting)?.as_slice())?;
+    for keys in &setting_keys() {
+        let mut path = Vec::new(alloc);
+        path.push(name)?;
+        path.extend_from_slice(keys)?;
+        ask_setting(alloc, profile, path.as_slice())?;
     }
     Ok(())
-}
-
-// The path of a setting of a profile.
-fn path_of<'a>(alloc: Global, name: &'a str, setting: &'a str) -> Result<Vec<&'a str>, AllocError> {
-    let mut path = Vec::new(alloc);
-    path.push(name)?;
-    for key in setting.split('.') {
-        path.push(key)?;
-    }
-    Ok(path)
 }
 
 fn ask_setting(
@@ -238,15 +199,7 @@ fn print_leaf(
 // Keys by the bytes of their text.
 fn print_keys(rt: &HostRuntime, path: &[&str]) -> Option<()> {
     for key in path {
-        print_key(rt, key)?;
-    }
-    Some(())
-}
-
-fn print_key(rt: &HostRuntime, key: &str) -> Option<()> {
-    print!(rt; "/").ok()?;
-    for byte in key.bytes() {
-        print!(rt; "{byte:02x}").ok()?;
+        print_key(rt, "/", key)?;
     }
     Some(())
 }

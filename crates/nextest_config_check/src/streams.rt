@@ -21,9 +21,6 @@ use std::alloc::{AllocError, Global};
 use std::fmt;
 use std::io::{self, ErrorKind, Read};
 
-#[cfg(test)]
-mod tests;
-
 /// Why a check gave no outcome.
 #[derive(Clone, Copy, Debug, PartialEq, Eq)]
 pub enum RunFault {

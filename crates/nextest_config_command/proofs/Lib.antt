@@ -10,5 +10,4 @@ pub mod ProfilesReported
 pub mod ShownToPeople
 pub mod VerdictsReported
 pub mod Walks
-pub mod WantedPaths
 pub mod ZipFrom

@@ -43,10 +43,6 @@ some_pushed P [] x (inr none) = absurd none
 some_pushed P (y ∷ xs) x (inl here) = inl (inl here)
 some_pushed P (y ∷ xs) x (inr later) = ⊎_map (λ earlier. inr earlier) (λ here. here) (some_pushed P xs x later)
 
--- nothing is added
-pub adds_none : (Holds : List ℕ → Type 0) (names : List (List ℕ)) → ((name : List ℕ) → Holds name → ⊥) → AddsNames Holds names names
-adds_none Holds names none = record { in_order = λ h. h; each = λ name. (inl, ⊎_elim (λ there. there) (λ holds. absurd (none name holds))) }
-
 -- the same said by other words
 pub adds_same : (P Q : List ℕ → Type 0) (before after : List (List ℕ)) → ((name : List ℕ) → P name ↔ Q name) → AddsNames P before after → AddsNames Q before after
 adds_same P Q before after same adds = record {
@@ -97,9 +93,6 @@ names_all P files n names last adds =
 pub adds_of_table : (R : List ℕ → List ℕ → Type 0) (found : Option Members) (profiles : Members) (before after : List (List ℕ)) → found ≡ Some profiles
     → AddsNames (λ name. SomeOf (λ key. R key name) (names_of profiles)) before after → AddsNames (λ name. SomeOf (λ key. R key name) (keys_of found)) before after
 adds_of_table R found profiles before after is adds = rw is adds
-
-pub adds_of_none : (R : List ℕ → List ℕ → Type 0) (found : Option Members) (names : List (List ℕ)) → found ≡ None → AddsNames (λ name. SomeOf (λ key. R key name) (keys_of found)) names names
-adds_of_none R found names is = rw is (adds_none (λ name. SomeOf (λ key. R key name) []) names (λ name none. none))
 
 -- that of a tool's file
 pub adds_tool : (kind : ConfigSourceKind) (tool text : List ℕ) (before after : List (List ℕ)) → kind ≡ Tool tool → text ≡ tool

@@ -45,7 +45,3 @@ none_at_all values name count past none place is = elim (cases_lt place count) [
 pub of_array : (value : Data) (items : Items) → as_array value ≡ Some items → value ≡ array items
 of_array (array held) items is = ap array (same_Some held items is)
 of_array value items is = absurd (none-some items is)
-
-pub of_no_array : (value : Data) (name : List ℕ) → as_array value ≡ None → IsFirstAt value name None
-of_no_array (array held) name is place at = cc is
-of_no_array value name is place at = absurd (none-some name at)

@@ -16,8 +16,8 @@ use Rattle.nextest_config_lint.specs.Hints.{IsFaultHint}
 use Rattle.nextest_config_lint.specs.Settings.{SettingView}
 use Rattle.nextest_config_lint.specs.Severity.{IsSeverity}
 use Rattle.nextest_config_lint.specs.Subjects.{IsLeftOpen, IsRight, IsWrong}
-use Rattle.nextest_config_lint.specs.Texts.{HasNoTextFault, IsTextFault}
-use Rattle.nextest_config_lint.specs.Values.{accepted, faulty, IsEmpty, left_open, miswritten, ReportsFault, ReportsText, ReportsValue}
+use Rattle.nextest_config_lint.specs.Texts.{IsTextFault}
+use Rattle.nextest_config_lint.specs.Values.{accepted, faulty, left_open, miswritten, ReportsFault, ReportsText, ReportsValue}
 use Rattle.nextest_config_lint.specs.declared.finding.Finding.{Finding}
 use Rattle.nextest_config_lint.specs.declared.finding.FindingSeverity.{FindingSeverity}
 use Rattle.nextest_config_lint.specs.declared.values.ValueFindings.{ValueFindings}
@@ -93,19 +93,6 @@ of_fault edition kind setting (Some this) memory found refuses (fault, outcome, 
     let wrong = subst (IsWrong edition setting.subject) (same_Some this fault is) refuses in
     (outcome, rw so (wrong, other), reports kind)
 
--- where nothing is wrong, nothing is found
-pub of_nothing : (edition : Edition) (kind : ConfigSourceKind) (setting : SettingView) (found : ValueFindings) → IsRight edition setting.subject
-    → HasNoTextFault setting.subject → IsEmpty found → ReportsValue edition kind setting found
-of_nothing edition kind setting found right sound empty = (
-  accepted,
-  (right, sound),
-  record {
-    faults = ([], refl, rw empty.faults refl);
-    features = ([], refl, rw empty.features refl);
-    notes = rw empty.notes refl;
-  },
-)
-
 -- ---- the findings of a text
 
 pub text_reported : (setting : SettingView) (fault : TextFault) (finding : Finding) (found : ValueFindings) → IsTextFault setting.subject fault
@@ -116,18 +103,6 @@ text_reported setting fault finding found wrong reports fault_item no_features n
   wrong,
   λ kind. record {
     faults = (found_at setting.path (wrong_text fault) ∷ [], refl, rw (fault_item, reports) refl);
-    features = ([], refl, rw no_features refl);
-    notes = rw no_notes refl;
-  },
-)
-
-pub no_text_reported : (setting : SettingView) (found : ValueFindings) → HasNoTextFault setting.subject
-    → found.faults.items ≡ [] → found.features.items ≡ [] → found.notes.items ≡ [] → ReportsText setting found
-no_text_reported setting found sound no_faults no_features no_notes = (
-  accepted,
-  sound,
-  λ kind. record {
-    faults = ([], refl, rw no_faults refl);
     features = ([], refl, rw no_features refl);
     notes = rw no_notes refl;
   },

@@ -275,11 +275,6 @@ array_named items texts = elim (feature_array.law.meaning_or_fault items) [
 array_taken : (path : List PathStep) (items : Items) → HaveNoFault ArrayAllowed (element_settings ArrayAllowed path 0 items) ↔ Takes feature_array items
 array_taken path items = (λ none. array_named items (all_texts path 0 items none), λ (named, means). texts_fine path 0 items means.of_texts)
 
--- under an edition that refuses arrays nothing is asked of the elements
-elements_passed : (path : List PathStep) (first : ℕ) (items : Items) → HaveNoFault TableOnly (element_settings TableOnly path first items)
-elements_passed path first no_items = tt
-elements_passed path first (item value rest) = ((λ fault wrong. wrong), elements_passed path (suc first) rest)
-
 -- behind what is judged of a value stand the features that it names, of which nothing is wrong
 and_features : (edition : Edition) (path : List PathStep) (value : Data) (settings : List SettingView) {P : Type 0} → HaveNoFault edition settings ↔ P
     → HaveNoFault edition (settings ++ (setting_at Error path (features_at value) ∷ [])) ↔ P

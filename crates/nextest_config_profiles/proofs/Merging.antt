@@ -1,5 +1,5 @@
 -- Tables lie over one another key by key.
-use Rattle.std.proofs.Common.{◌≡◌, ℕ, false, List, [], ◌∷◌, ◌++◌, Some, None, string_bytes, refl, sym, ap, ◌∙◌, rules, inl, inr}
+use Rattle.std.proofs.Common.{◌≡◌, ℕ, false, List, [], ◌∷◌, ◌++◌, Some, None, string_bytes, refl, sym, ap, ◌∙◌, inl, inr}
 use Rattle.std.proofs.lemmas.Bool.{cases_Bool, false≢true}
 use Rattle.std.specs.List.Sorted.{IsStrictlySortedBy}
 use Rattle.std.specs.Map.{keys_of}
@@ -10,9 +10,6 @@ use Rattle.toml.specs.View.{members_view, view}
 use Rattle.nextest_config_profiles.specs.Merging.{IsOver, over, Puts, seen, seen_at}
 use Rattle.nextest_config_profiles.specs.Said.{bare, branch, Said, said_at, said_here, silent}
 use Rattle.nextest_config_profiles.proofs.Members.{first_member, is_key, key_itself, last_member, not_before, one_key, other_last}
-
-pub over_silent : (said : Said) → over silent said ≡ seen said
-over_silent said = search rules
 
 -- a value is seen, whatever lies below it
 pub seen_value : (value : Data) → seen (said_here value) ≡ silent → ⊥

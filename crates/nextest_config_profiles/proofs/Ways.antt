@@ -16,13 +16,6 @@ text_said (string held) text h = ap (λ found. leaf (string (unwrap_or found tex
 text_said value text h = absurd (cc h)
 
 module _ (layers : Layers) where
-  -- the front of a way, and its end
-  pub way_front : (before : List (List ℕ)) (name : List ℕ) (after : List (List ℕ)) → IsWay layers (before ++ name ∷ after) → IsWay layers (before ++ name ∷ [])
-  way_front [] name after way = tt
-  way_front (first ∷ []) name [] way = way
-  way_front (first ∷ []) name (next ∷ after) way = (way.0, way.1, tt)
-  way_front (first ∷ second ∷ before) name after way = (way.0, way.1, way_front (second ∷ before) name after way.2)
-
   pub way_end : (before : List (List ℕ)) (name : List ℕ) (after : List (List ℕ)) → IsWay layers (before ++ name ∷ after) → IsWay layers (name ∷ after)
   way_end [] name after way = way
   way_end (first ∷ []) name after way = way.2

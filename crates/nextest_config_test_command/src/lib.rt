@@ -1,7 +1,5 @@
-//! Whole runs of the command's engine, from outside, over files in memory.
+//! The command's engine from outside, over files and streams in memory.
 #![tactic(auto)]
 
 pub mod kept;
 pub mod memory;
-#[cfg(test)]
-mod tests;

@@ -1,5 +1,5 @@
 -- Tool arguments: a text has one, or one fault.
-use Rattle.std.proofs.Common.{◌≡◌, ◌∙◌, ◌⊎◌, ℕ, List, [], ◌∷◌, Option, Some, None, ap, refl, sym, inl, inr, rules}
+use Rattle.std.proofs.Common.{◌≡◌, ◌∙◌, ◌⊎◌, ℕ, List, [], ◌∷◌, Option, ap, refl, sym, inl, inr, rules}
 use Rattle.nextest_config_values.specs.Decisions.{IsDecided}
 use Rattle.nextest_config_values.specs.Helpers.Paths.{BeginsWithSlash}
 use Rattle.nextest_config_values.specs.Helpers.PathsLaws.{begins_decided}
@@ -7,8 +7,7 @@ use Rattle.nextest_config_values.specs.Identifier.{cut_or_none, IsCutAtColon, Is
 use Rattle.nextest_config_values.specs.Once.{HasMeaningOrFault, HasOneMeaningOrFault}
 use Rattle.nextest_config_values.specs.Read.{FaultOrMemory, one_then}
 use Rattle.nextest_config_values.specs.declared.tool_config.ToolConfigFileParseError.{ToolConfigFileParseError}
-use Rattle.nextest_config_values.proofs.Faults.{fault_mapped}
-use Rattle.nextest_config_values.specs.ToolConfig.{Argument, ArgumentFault, IsArgumentFault, IsPartsFault, IsPathFault, IsToolArgument, RefusesArgument, RefusesTool, argument_fault, config_file_not_absolute, empty_config_file, invalid_format, invalid_tool_name}
+use Rattle.nextest_config_values.specs.ToolConfig.{Argument, ArgumentFault, IsArgumentFault, IsPartsFault, IsPathFault, IsToolArgument, RefusesArgument, RefusesTool, config_file_not_absolute, empty_config_file, invalid_format, invalid_tool_name}
 
 path_or_fault : (text path : List ℕ) → IsDecided (BeginsWithSlash path) → BeginsWithSlash path ⊎ ((f : ArgumentFault) × IsPathFault text path f)
 path_or_fault text path (inl slash) = inl slash

@@ -2,7 +2,7 @@
 use Rattle.std.proofs.Common.{◌≡◌, ◌≢◌, ℕ, ◌+◌, ◌-◌, ◌*◌, ◌<◌, ◌^◌, List, [], ◌∷◌, ◌++◌, length, Some, None, refl, sym, ap, ◌∙◌, subst, inl, inr, rules, arith}
 use Rattle.std.specs.Prelude.{min, IsTrue, Err, Ok, Result, chars, encode_utf8_all}
 use Rattle.std.proofs.lemmas.Bool.{cases_Bool}
-use Rattle.std.proofs.lemmas.List.{append_assoc, append-nil, length-append}
+use Rattle.std.proofs.lemmas.List.{append_assoc, length-append}
 use Rattle.std.proofs.lemmas.Str.{chars-encodes, chars_from_encodes, encodes-append, encodes-chars}
 use Rattle.std.specs.Char.{is_ascii_digit, is_whitespace}
 use Rattle.std.specs.Duration.{FitsDuration}

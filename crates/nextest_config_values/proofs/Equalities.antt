@@ -7,7 +7,7 @@ use Rattle.semver.specs.Identifiers.{parts_of}
 use Rattle.semver.specs.contracts.VersionPartialEq.TheImpl as version_eq
 use Rattle.semver.specs.declared.Version.{Version}
 use Rattle.nextest_config_values.specs.Equality.{IsEqualityBy, IsEqualityOfTold}
-use Rattle.nextest_config_values.specs.Read.{for_reason, broken_rule, BrokenRule, Cause, cause_of, custom, fault_of, fault_with, identifier, key, missing_key, no_duration, PathStep, Reason, reason_of, required_above_recommended, step_of, read_fault_view, read_fault_with, ReadFaultView, tool_name, words_of}
+use Rattle.nextest_config_values.specs.Read.{for_reason, broken_rule, BrokenRule, Cause, cause_of, custom, fault_of, fault_with, identifier, missing_key, no_duration, Reason, reason_of, required_above_recommended, step_of, read_fault_view, read_fault_with, ReadFaultView, tool_name, words_of}
 use Rattle.nextest_config_values.specs.Read.Fault.{Fault, unknown_field, unknown_variant}
 use Rattle.nextest_config_values.specs.Identifier.{identifier_fault, tool_name_fault}
 use Rattle.nextest_config_values.specs.contracts.read.fault.FaultKindPartialEq.TheImpl as kind_eq
@@ -16,7 +16,6 @@ use Rattle.nextest_config_values.specs.contracts.read.fault.RulePartialEq.TheImp
 use Rattle.toml_spans.specs.contracts.step.StepPartialEq.TheImpl as step_eq
 use Rattle.nextest_config_values.specs.contracts.read.value_fault.FaultCausePartialEq.TheImpl as cause_eq
 use Rattle.nextest_config_values.specs.contracts.read.value_fault.ValueFaultPartialEq.TheImpl as value_eq
-use Rattle.toml_spans.specs.declared.step.Step.TheVariants as steps
 use Rattle.nextest_config_values.specs.declared.read.value_fault.FaultCause.TheVariants as causes
 use Rattle.nextest_config_values.specs.declared.read.fault.FaultKind.TheVariants as kinds
 use Rattle.nextest_config_values.specs.declared.read.fault.Rule.TheVariants as broken

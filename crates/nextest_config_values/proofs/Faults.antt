@@ -1,12 +1,11 @@
 -- Refusals: what follows from a refusal, and refusals of readings that are put together.
-use Rattle.std.proofs.Common.{◌≡◌, ◌⊎◌, ℕ, List, Option, Some, None, Result, Ok, Err, IsOk, inl, inr, refl, sym, subst, rules}
-use Rattle.std.proofs.Math.Logic.{⊎_elim, ⊎_map}
-use Rattle.std.proofs.lemmas.Result.{err_from_is_err_and}
+use Rattle.std.proofs.Common.{◌≡◌, ◌⊎◌, ℕ, List, Option, Some, None, Result, Ok, IsOk, inl, inr, refl, sym, subst, rules}
+use Rattle.std.proofs.Math.Logic.{⊎_map}
 use Rattle.std.specs.Result.{IfErr, IsErrAnd}
 use Rattle.std.specs.Prelude.{IfSome, MatchResult}
 use Rattle.nextest_config_values.specs.Identifier.{Grammar, IsNormalFault, NameFault}
 use Rattle.nextest_config_values.specs.Read.Fault.{Fault}
-use Rattle.nextest_config_values.specs.Read.{Always, for_reason, fault_below, fault_here, fault_of, FaultOrMemory, inner_at, IsMemory, IsNameKind, IsRefusal, no_data, PathStep, Reading, Reason, Refuses, RefusesAs, RefusesAt, RefusesBy, RefusesKind, RefusesOne, TellsAs, TellsMemory, read_fault_at, read_fault_view}
+use Rattle.nextest_config_values.specs.Read.{Always, for_reason, fault_below, fault_here, fault_of, FaultOrMemory, inner_at, IsMemory, IsNameKind, IsRefusal, no_data, PathStep, Reading, Refuses, RefusesAs, RefusesAt, RefusesBy, RefusesKind, RefusesOne, TellsAs, TellsMemory, read_fault_at}
 use Rattle.nextest_config_values.specs.declared.read.fault.FaultKind.{FaultKind}
 use Rattle.nextest_config_values.specs.declared.read.fault.ReadFault.{ReadFault}
 use Rattle.nextest_config_values.specs.declared.read.value_fault.ValueFault.{ValueFault}

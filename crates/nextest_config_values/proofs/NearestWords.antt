@@ -1,8 +1,8 @@
 -- The nearest word so far, word by word.
-use Rattle.std.proofs.Common.{◌≡◌, ℕ, suc, ◌<◌, ◌≤◌, Bool, true, false, inl, inr, List, [], ◌∷◌, ◌++◌, length, min, ◌+◌, drop, get_or, take, Option, Some, None, refl, sym, ap, ◌∙◌, ⊎_elim, append_assoc, arith, rules}
+use Rattle.std.proofs.Common.{◌≡◌, ℕ, suc, ◌<◌, ◌≤◌, Bool, true, false, inl, List, [], ◌∷◌, ◌++◌, length, min, ◌+◌, drop, get_or, take, Option, Some, None, refl, sym, ap, ◌∙◌, ⊎_elim, append_assoc, arith, rules}
 use Rattle.std.specs.Prelude.{chars}
 use denote.Ref.{Bor}
-use Rattle.std.proofs.lemmas.Bool.{cases_Bool, cases_lt}
+use Rattle.std.proofs.lemmas.Bool.{cases_Bool}
 use Rattle.std.proofs.lemmas.Int.{clamps}
 use Rattle.std.proofs.lemmas.List.{drop_more, get_or_default, map-append, map_push, take-append-drop, take_more}
 use Rattle.std.specs.Bool.{MatchBool}
@@ -12,7 +12,7 @@ use Rattle.std.specs.List.{AllByRecursion, AllWithin, HoldsAt, zip}
 use Rattle.toml_spans.proofs.Elements.{all_always, all_joined, all_weaker, decided_all}
 use Rattle.nextest_config_values.proofs.Distances.{distance_apart}
 use Rattle.nextest_config_values.specs.Read.{words_of}
-use Rattle.nextest_config_values.specs.NearestWord.{distance, farness, IsFewEdits, IsNear, IsNearest, IsNearestWord, is_same, most_edits}
+use Rattle.nextest_config_values.specs.NearestWord.{distance, farness, IsNear, IsNearest, IsNearestWord, is_same, most_edits}
 
 -- ---- how far a word is
 
@@ -53,9 +53,6 @@ all_farther name word words (Some best) nearest near less =
     (all_joined (λ other. farness name word < farness name other) nearest.before (best ∷ nearest.after)
     (all_weaker (λ other. farness name best < farness name other) (λ other. farness name word < farness name other) (λ other more. omega (arith, less, more)) nearest.before nearest.farther_before)
     (less, all_weaker (λ other. farness name best ≤ farness name other) (λ other. farness name word < farness name other) (λ other more. omega (arith, less, more)) nearest.after nearest.none_nearer))
-
-few_below : (name word best : List ℕ) → IsNear name best → farness name word ≡ suc (distance name word) → farness name word < farness name best → IsFewEdits name word
-few_below name word best h3 far less = search rules
 
 -- a nearer word is near
 near_below : (name word : List ℕ) (words : List (List ℕ)) (found : Option (List ℕ)) → IsNearest words name found → farness name word < limit_of name found → IsNear name word

@@ -1,11 +1,10 @@
 -- Characters that are shown as they are, and that what is shown is printable.
 use Rattle.std.proofs.Common.{◌≡◌, ℕ, ◌<◌, ◌≤◌, ◌+◌, ◌/◌, ◌%◌, ◌==◌, ◌&&◌, ◌||◌, nat_le, nat_lt, zero, suc, Bool, true, false, cond, List, [], ◌∷◌, ◌++◌, codes, flat_map, ap, arith, refl, subst, sym, rules}
-use Rattle.std.proofs.lemmas.Bool.{true≢false}
 use Rattle.std.proofs.lemmas.Bool.Decides.{nat_tests}
 use Rattle.std.proofs.lemmas.List.{append-nil}
 use Rattle.std.proofs.lemmas.List.Concat.{flat_map-append}
 use Rattle.std.proofs.lemmas.Str.{chars-IsAscii, encode_ascii}
-use Rattle.std.specs.Char.{digit_char, is_control}
+use Rattle.std.specs.Char.{digit_char}
 use Rattle.std.specs.Char.Escape.{escape_unicode}
 use Rattle.std.specs.List.{AllByRecursion, list_all, slice_index}
 use Rattle.std.specs.Prelude.{chars, encode_utf8, None, Option, Some, unwrap_or}
@@ -27,15 +26,6 @@ bounds c is = let both = both_are (nat_le 32 c) (nat_le c 126) is in (grind (ari
 
 other_than : (n c : ℕ) → n < 32 → 32 ≤ c → (c == n) ≡ false
 other_than n c below low = grind (arith, nat_tests)
-
-no_control : (c : ℕ) → 32 ≤ c → c ≤ 126 → is_control c ≡ false
-no_control c low high = grind (arith, nat_tests)
-
-below_others : (n c : ℕ) → 126 < n → c ≤ 126 → nat_le n c ≡ false
-below_others n c above high = grind (arith, nat_tests)
-
-not_blank : (c : ℕ) → c ≤ 126 → (c == 8203) ≡ false
-not_blank c high = grind (arith, nat_tests)
 
 is_shown : (c : ℕ) → 32 ≤ c → c ≤ 126 → is_unprintable c ≡ false
 is_shown c low high = search rules

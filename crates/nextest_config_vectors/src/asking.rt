@@ -163,7 +163,10 @@ impl<'r> Asking<'r> {
                 let number = self.number;
                 self.number = number.saturating_add(1);
                 match task {
-                    Task::Ask(asked) if asked == number => self.tell_twice(row),
+                    Task::Ask(asked) if asked == number => {
+                        self.tell(row)?;
+                        self.tell(row)
+                    }
                     Task::List => self.list(row),
                     _ => Ok(()),
                 }
@@ -175,11 +178,6 @@ impl<'r> Asking<'r> {
         let mark = if row.mark == Mark::Idle { "- " } else { "" };
         let (name, call, input) = (&row.name, &row.call, &row.input);
         Ok(println!(self.rt; "{mark}{name} | {call} | {input:?}")?)
-    }
-
-    fn tell_twice(&self, row: &Row) -> Result<(), Failure> {
-        self.tell(row)?;
-        self.tell(row)
     }
 
     // Asks, and tells what was answered.

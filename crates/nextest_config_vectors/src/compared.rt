@@ -69,48 +69,31 @@ fn is_same<T: PartialEq + Debug>(rt: &Runner, left: &T, right: &T) -> Result<boo
     }
 }
 
+// The copy of a value of a type.
+macro_rules! copy_of {
+    ($rt:ident, $input:ident, $type:ty) => {
+        copy($rt, $input, |it: &$type, alloc| it.clone(alloc))
+    };
+}
+
 /// Whether a copy of the row's value is the same.
 pub fn copies(rt: &Runner, call: &str, input: &str) -> Result<String, Failure> {
     match call {
-        "ConfigIdentifier" => copy(rt, input, |it: &ConfigIdentifier, alloc| it.clone(alloc)),
-        "ConfigSource" => copy(rt, input, |it: &ConfigSource, alloc| it.clone(alloc)),
-        "ConfigSourceKind" => copy(rt, input, |it: &ConfigSourceKind, alloc| it.clone(alloc)),
-        "DefaultJunitImpl" => copy(rt, input, |it: &DefaultJunitImpl, alloc| it.clone(alloc)),
-        "JunitImpl" => copy(rt, input, |it: &JunitImpl, alloc| it.clone(alloc)),
-        "ToolConfigFile" => copy(rt, input, |it: &ToolConfigFile, alloc| it.clone(alloc)),
-        "ToolName" => copy(rt, input, |it: &ToolName, alloc| it.clone(alloc)),
+        "ConfigIdentifier" => copy_of!(rt, input, ConfigIdentifier),
+        "ConfigSource" => copy_of!(rt, input, ConfigSource),
+        "ConfigSourceKind" => copy_of!(rt, input, ConfigSourceKind),
+        "DefaultJunitImpl" => copy_of!(rt, input, DefaultJunitImpl),
+        "ExperimentalConfig" => copy_of!(rt, input, ExperimentalConfig),
+        "ExperimentalDeserialize" => copy_of!(rt, input, ExperimentalDeserialize),
+        "JunitImpl" => copy_of!(rt, input, JunitImpl),
+        "NextestVersionConfig" => copy_of!(rt, input, NextestVersionConfig),
+        "NextestVersionDeserialize" => copy_of!(rt, input, NextestVersionDeserialize),
+        "NextestVersionEval" => copy_of!(rt, input, NextestVersionEval),
+        "NextestVersionReq" => copy_of!(rt, input, NextestVersionReq),
+        "ToolConfigFile" => copy_of!(rt, input, ToolConfigFile),
+        "ToolName" => copy_of!(rt, input, ToolName),
         "TrackDefault" => copy(rt, input, |it: &TrackDefault<String>, _| it.clone()),
-        _ => copy_of_asked(rt, call, input),
-    }
-}
-
-fn copy_of_asked(rt: &Runner, call: &str, input: &str) -> Result<String, Failure> {
-    match call {
-        "ExperimentalConfig" => copy(rt, input, |it: &ExperimentalConfig, alloc| it.clone(alloc)),
-        "ExperimentalDeserialize" => {
-            copy(
-                rt,
-                input,
-                |it: &ExperimentalDeserialize, alloc| it.clone(alloc),
-            )
-        }
-        "NextestVersionConfig" => {
-            copy(
-                rt,
-                input,
-                |it: &NextestVersionConfig, alloc| it.clone(alloc),
-            )
-        }
-        "NextestVersionDeserialize" => {
-            copy(
-                rt,
-                input,
-                |it: &NextestVersionDeserialize, alloc| it.clone(alloc),
-            )
-        }
-        "NextestVersionEval" => copy(rt, input, |it: &NextestVersionEval, alloc| it.clone(alloc)),
-        "NextestVersionReq" => copy(rt, input, |it: &NextestVersionReq, alloc| it.clone(alloc)),
-        "VersionOnlyConfig" => copy(rt, input, |it: &VersionOnlyConfig, alloc| it.clone(alloc)),
+        "VersionOnlyConfig" => copy_of!(rt, input, VersionOnlyConfig),
         _ => unknown(rt, call),
     }
 }

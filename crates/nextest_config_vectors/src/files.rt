@@ -1,8 +1,9 @@
-//! Files, places and profiles.
+//! Files, places, profiles and streams.
 
 pub mod documents;
 pub mod lists;
 pub mod positions;
+pub mod streams;
 
 use crate::answers::unknown;
 use crate::failure::Failure;
@@ -15,6 +16,7 @@ pub fn answer(rt: &Runner, subject: &str, call: &str, input: &str) -> Result<Str
         "found" => documents::found(rt, call, input),
         "place" => positions::places(rt, call, input),
         "profiles" => lists::lists(rt, call, input),
+        "streams" => streams::streams(rt, call, input),
         _ => unknown(rt, subject),
     }
 }

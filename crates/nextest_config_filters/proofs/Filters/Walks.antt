@@ -5,7 +5,7 @@ use Rattle.std.proofs.lemmas.Bool.{cases_Bool}
 use Rattle.std.proofs.lemmas.Str.{encodes-chars, length-le-encodes}
 use Rattle.std.specs.Str.{chars, IsUtf8}
 use Rattle.nextest_config_filters.specs.Filter.Reading.{closes, ends, not_closed}
-use Rattle.nextest_config_filters.specs.Filter.Regex.{judged_at, regex_at}
+use Rattle.nextest_config_filters.specs.Filter.Regex.{judged_at}
 use Rattle.nextest_config_filters.specs.Filter.Steps.{at_level, IsLeftOpen, Shows}
 use Rattle.nextest_config_filters.specs.Filter.Walk.{Finds, next, next_of, reported_of, start, State}
 use Rattle.nextest_config_filters.specs.declared.filter.FilterPlace.{FilterPlace}
@@ -21,10 +21,6 @@ chars_fit text u = omega (arith, length-le-encodes (chars text), ap length (enco
 pub shown_reading : (place : FilterPlace) (level : ℕ) (own : OwnState) (now : State) → Shows level own now
     → judged_at place own.expects (chars own.rest.now) ≡ judged_at place now.expects now.rest
 shown_reading place level own now shows = rw (shows.expects, shows.rest) refl
-
-pub shown_regex : (level : ℕ) (own : OwnState) (now : State) → Shows level own now
-    → regex_at own.expects (chars own.rest.now) ≡ regex_at now.expects now.rest
-shown_regex level own now shows = rw (shows.expects, shows.rest) refl
 
 -- ---- the parenthesis of a level
 

@@ -1,5 +1,5 @@
 -- Leaving out gaps, a character at a time.
-use Rattle.std.proofs.Common.{◌≡◌, ℕ, Bool, true, false, List, [], ◌∷◌, ◌++◌, refl, ap, sym, ◌∙◌, inl, inr, ⊎_elim, append_assoc, rules}
+use Rattle.std.proofs.Common.{◌≡◌, ℕ, Bool, true, false, List, [], ◌∷◌, ◌++◌, refl, ap, sym, ◌∙◌, inl, inr, append_assoc, rules}
 use Rattle.std.proofs.lemmas.Bool.{and_parts, cases_Bool, false≢true}
 use Rattle.std.specs.Prelude.{IsTrue, ◌&&◌, ◌||◌}
 use Rattle.std.specs.Char.{is_ascii_digit, is_whitespace}

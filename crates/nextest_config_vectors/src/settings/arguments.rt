@@ -22,28 +22,10 @@ impl Told for ToolConfigFile {
 impl Told for ToolConfigFileParseError {
     fn told(&self, rt: &Runner, call: &str) -> Result<String, Failure> {
         rt.end();
-        match call {
-            "argument" => refusal(rt, self),
-            "refusal" if !matches!(self, ToolConfigFileParseError::Memory) => written(rt, self),
-            _ => shown(rt, self),
+        if call == "printed" || matches!(self, ToolConfigFileParseError::Memory) {
+            shown(rt, self)
+        } else {
+            written(rt, self)
         }
     }
-}
-
-fn refusal(rt: &Runner, error: &ToolConfigFileParseError) -> Result<String, Failure> {
-    let (name, text) = match error {
-        ToolConfigFileParseError::InvalidFormat { input } => ("InvalidFormat", input),
-        ToolConfigFileParseError::InvalidToolName { input, error } => {
-            return done(
-                rt,
-                format!(in rt.alloc(); "InvalidToolName {input}: {error}"),
-            );
-        }
-        ToolConfigFileParseError::EmptyConfigFile { input } => ("EmptyConfigFile", input),
-        ToolConfigFileParseError::ConfigFileNotAbsolute { config_file } => {
-            ("ConfigFileNotAbsolute", config_file)
-        }
-        ToolConfigFileParseError::Memory => return shown(rt, error),
-    };
-    done(rt, format!(in rt.alloc(); "{name} {text}"))
 }

@@ -19,7 +19,7 @@ pub fn limits(rt: &Runner, call: &str, input: &str) -> Result<String, Failure> {
         "max-fail" => parsed(rt, MaxFail::from_str(rt.call(), input)),
         "mode" => parsed(rt, TerminateMode::from_str(rt.call(), input)),
         "printed" => printed(rt, MaxFail::from_str(rt.call(), input)),
-        "text" => text_of(rt, MaxFail::from_row(rt, input)?),
+        "text" => text(rt, MaxFail::from_row(rt, input)?.to_string(rt.call())),
         "reached" => reached(rt, given, MaxFail::from_row(rt, input)?),
         "priority" => priority(rt, i8::from_row(rt, input)?),
         "sorted" => sorted(rt, input),
@@ -66,10 +66,6 @@ fn printed(rt: &Runner, answer: Result<MaxFail, MaxFailParseError>) -> Result<St
         Ok(limit) => shown(rt, &limit),
         Err(error) => shown(rt, &error),
     }
-}
-
-fn text_of(rt: &Runner, limit: MaxFail) -> Result<String, Failure> {
-    text(rt, limit.to_string(rt.call()))
 }
 
 fn reached(rt: &Runner, failed: &str, limit: MaxFail) -> Result<String, Failure> {
@@ -119,35 +115,20 @@ fn tracked(rt: &Runner, value: u32) -> Result<String, Failure> {
 
 // Values that no text writes.
 fn plain(rt: &Runner, call: &str, name: &str) -> Result<String, Failure> {
+    rt.begin();
     match name {
-        "true" | "false" => fail_fast(rt, name == "true"),
+        "true" | "false" => written(rt, MaxFail::from_fail_fast(name == "true")),
         "SlowTimeout::very_large" => very_large(rt),
-        "RetryPolicy::default" => default_policy(rt),
-        "RetryPolicy::new_without_delay" => policy_without_delay(rt),
+        "RetryPolicy::default" => policy(rt, RetryPolicy::default()),
+        "RetryPolicy::new_without_delay" => policy(rt, RetryPolicy::new_without_delay(3)),
         _ => unknown(rt, call),
     }
 }
 
-fn fail_fast(rt: &Runner, fails: bool) -> Result<String, Failure> {
-    rt.begin();
-    written(rt, MaxFail::from_fail_fast(fails))
-}
-
 fn very_large(rt: &Runner) -> Result<String, Failure> {
-    rt.begin();
     let timeout = SlowTimeout::very_large();
     rt.end();
     Ok(format!(in rt.alloc(); "{timeout:?}")?)
-}
-
-fn default_policy(rt: &Runner) -> Result<String, Failure> {
-    rt.begin();
-    policy(rt, RetryPolicy::default())
-}
-
-fn policy_without_delay(rt: &Runner) -> Result<String, Failure> {
-    rt.begin();
-    policy(rt, RetryPolicy::new_without_delay(3))
 }
 
 fn policy(rt: &Runner, policy: RetryPolicy) -> Result<String, Failure> {

@@ -1,5 +1,5 @@
 -- The pieces of a key that is read of a text lie between its beginning and the rest.
-use Rattle.std.proofs.Common.{◌≡◌, ℕ, zero, suc, ◌≤◌, ◌==◌, List, [], ◌∷◌, ◌++◌, length, drop, Some, None, ap, arith, rules}
+use Rattle.std.proofs.Common.{ℕ, zero, suc, ◌≤◌, ◌==◌, List, [], ◌∷◌, ◌++◌, length, drop, arith, rules}
 use Rattle.std.specs.List.{AllByRecursion}
 use Rattle.toml_parser.specs.Lexical.{first, skip_ws}
 use Rattle.toml_spans.proofs.Elements.{all_joined, all_weaker}
@@ -39,10 +39,6 @@ pieces_wider high low higher lower up down t within = search rules
 -- and those of a key
 pub parts_wider : (high low higher lower : ℕ) → high ≤ higher → lower ≤ low → (ps : Parts) → PartsWithin high low ps → PartsWithin higher lower ps
 parts_wider high low higher lower up down ps within = (all_weaker _ _ (λ part. within_wider high low higher lower up down part.1) ps.0 within.0, within_wider high low higher lower up down ps.1.1 within.1)
-
--- what stands where a key's piece alone is written
-pub key_within : (high low : ℕ) (k : Piece) → Within high low k → (t : Tree) → pieces_of t ≡ record { of_key = Some k; of_value = None } → PiecesWithin high low t
-key_within high low k within t is = record { of_key = rw (ap (λ p. p.of_key) is) (found_some k within); of_value = rw (ap (λ p. p.of_value) is) found_none }
 
 -- ---- keys
 

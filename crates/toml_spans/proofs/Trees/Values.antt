@@ -3,10 +3,9 @@ use Rattle.std.proofs.Common.{◌≡◌, ℕ, zero, suc, ◌≤◌, ◌==◌, Li
 use Rattle.std.proofs.lemmas.Bool.{cases_Bool}
 use Rattle.toml_parser.specs.Lexical.{first, Read, skip_blank}
 use Rattle.toml_parser.specs.Strings.{Key}
-use Rattle.toml_parser.specs.declared.scalar.Scalar.{Scalar}
 use Rattle.toml.proofs.Turns.{val_array, val_atom, val_table}
 use Rattle.toml.specs.Data.{array as array_data, Data, Items, Members, no_items, push_item, table as table_data}
-use Rattle.toml.specs.Parse.{after_element, atom, items, keyval, members, read_map, scalar_data, val}
+use Rattle.toml.specs.Parse.{after_element, atom, items, keyval, members, read_map, val}
 use Rattle.toml.specs.Tables.{close, key_value, no_nodes, Nodes, value}
 use Rattle.toml_spans.specs.Entry.{array, after_key, Branches, inline, no_branches, no_trees, Piece, piece, pieces_of, push_tree, scalar, Tree, Trees}
 use Rattle.toml_spans.specs.Key.{Parts}
@@ -21,11 +20,7 @@ use Rattle.toml_spans.proofs.Trees.Rests.{rest_blank, rest_dropped, rest_element
 use Rattle.toml_spans.proofs.Trees.Stands.{AreBranches, AreTrees, IsBranch, IsPlain, IsRest, IsTree, KeyStands, LeadsTo, ValueStands}
 use Rattle.toml_spans.proofs.Trees.Tables.{put_grows, ReadAlike}
 
--- a scalar is neither an array nor a table
-scalar_plain : (s : Scalar) → IsPlain (scalar_data s)
-scalar_plain s = search rules
-
--- nor is a string
+-- what is neither an array nor a table
 atom_plain : (text : List ℕ) (d : Data) (rest : List ℕ) → atom text ≡ Some (d, rest) → IsPlain d
 unfolding atom
 atom_plain text d rest is = search rules

@@ -1,4 +1,4 @@
-use Rattle.std.proofs.Common.{◌≡◌, ℕ, List, Option, Some, None, map, option_map, refl, string_bytes, rules}
+use Rattle.std.proofs.Common.{◌≡◌, ℕ, List, Option, map, option_map, string_bytes, rules}
 use Rattle.std.specs.Prelude.{IfSome}
 use Rattle.nextest_config_values.specs.Read.{Cause, cause_of, fault_with, FaultOrMemory, path_along, PathStep, Reason, reason_at, reason_of, step_of, TellsAs, TellsMemory, read_fault_at, read_fault_with}
 use Rattle.nextest_config_values.specs.declared.read.fault.FaultKind.{FaultKind}
