@@ -3,18 +3,12 @@
 ghost use Rattle.std.specs.Prelude.{◌≡◌, ◌↔◌, ℕ, ◌<◌, ◌≤◌, ◌^◌, ℤ, ◌<ℤ◌, IsTrue};
 ghost use Rattle.std.specs.Ordering.{MatchOrdering};
 ghost use Rattle.toml.specs.Data.{Members};
-ghost use Rattle.nextest_config_values.specs.Duration.{duration_reading};
 ghost use Rattle.nextest_config_values.specs.Equality.{IsCopy, IsEquality, IsEqualityBy};
 ghost use Rattle.nextest_config_values.specs.Helpers.PathsLaws.{relative_path_reading};
 ghost use Rattle.nextest_config_values.specs.Once.{HasOneMeaningOrFault};
 ghost use Rattle.nextest_config_values.specs.Read.{IsReading};
-ghost use Rattle.nextest_config_elements.specs.Junit.{HasText, junit_reading, junit_table, JunitTable};
-ghost use Rattle.nextest_config_elements.specs.LeakTimeout.{leak_timeout_reading};
-ghost use Rattle.nextest_config_elements.specs.MaxFail.{fail_fast_reading, IsLimitFault, IsLimitText, IsReached, limit_fault, limit_text, LimitFault};
-ghost use Rattle.nextest_config_elements.specs.Priority.{priority_reading};
-ghost use Rattle.nextest_config_elements.specs.RetryPolicy.{flaky_result_reading, retry_policy_reading};
-ghost use Rattle.nextest_config_elements.specs.SlowTimeout.{slow_timeout_reading};
-ghost use Rattle.nextest_config_elements.specs.ThreadsRequired.{threads_reading};
+ghost use Rattle.nextest_config_elements.specs.Junit.{HasText, junit_table, JunitTable};
+ghost use Rattle.nextest_config_elements.specs.MaxFail.{IsLimitFault, IsLimitText, IsReached, limit_fault, limit_text, LimitFault};
 ghost use Rattle.nextest_config_elements.specs.declared.max_fail.MaxFail.{MaxFail};
 ghost use Rattle.nextest_config_elements.specs.declared.max_fail.MaxFail.TheVariants.{All, Count};
 ghost use Rattle.nextest_config_elements.specs.declared.max_fail.TerminateMode.{TerminateMode};
@@ -25,6 +19,7 @@ use crate::junit::{JunitFlakyFailStatus, JunitImpl, MissingSetting};
 use crate::leak_timeout::{LeakTimeout, LeakTimeoutResult};
 use crate::max_fail::{CountFault, MaxFail, MaxFailCount, MaxFailParseError, TerminateMode};
 use crate::priority::{TestPriority, TestPriorityOutOfRange};
+use crate::profile_setting::ProfileSetting;
 use crate::report_skip_policy::{MismatchReason, ReportSkipPolicy};
 use crate::retry_policy::{Backoff, FlakyResult, RetryPolicy};
 use crate::slow_timeout::{SlowTimeout, SlowTimeoutResult};
@@ -62,18 +57,10 @@ pub fn law_priority_order()
     ensures equality { (a b : ℤ) → IsTrue (⟦<TestPriority as PartialEq>⟧.eq a b) ↔ (a ≡ b) }
 {}
 
-/// As each of these settings, and as a relative path, a value means one thing and has no fault, or
-/// it means nothing and has one fault.
-pub fn law_setting_once()
-    ensures slow_timeout { IsReading slow_timeout_reading.means slow_timeout_reading.faults }
-    ensures global_timeout { IsReading duration_reading.means duration_reading.faults }
-    ensures leak_timeout { IsReading leak_timeout_reading.means leak_timeout_reading.faults }
-    ensures retries { IsReading retry_policy_reading.means retry_policy_reading.faults }
-    ensures flaky_result { IsReading flaky_result_reading.means flaky_result_reading.faults }
-    ensures fail_fast { IsReading fail_fast_reading.means fail_fast_reading.faults }
-    ensures priority { IsReading priority_reading.means priority_reading.faults }
-    ensures threads_required { IsReading threads_reading.means threads_reading.faults }
-    ensures junit { IsReading junit_reading.means junit_reading.faults }
+/// As any setting, and as a relative path, a value means one thing and has no fault, or it means
+/// nothing and has one fault.
+pub fn law_setting_once<T: ProfileSetting>()
+    ensures setting { IsReading T.reading.means T.reading.faults }
     ensures relative_path { IsReading relative_path_reading.means relative_path_reading.faults }
 {}
 
