@@ -12,18 +12,11 @@ use crate::answers::{copied, cut, done, push, unknown, written};
 use crate::failure::Failure;
 use crate::files::documents::document;
 use crate::runner::Runner;
+use crate::settings::readers::of_profile;
 use crate::told::{self, Told, answered};
 use crate::values::{FromRow, word};
 use nextest_config::nextest_version::{ConfigSource, ConfigSourceKind};
-use nextest_config_elements::global_timeout::GlobalTimeout;
-use nextest_config_elements::junit::JunitFlakyFailStatus;
-use nextest_config_elements::leak_timeout::LeakTimeout;
-use nextest_config_elements::max_fail::MaxFail;
 use nextest_config_elements::profile_setting::ProfileSetting;
-use nextest_config_elements::report_skip_policy::ReportSkipPolicy;
-use nextest_config_elements::retry_policy::{FlakyResult, RetryPolicy};
-use nextest_config_elements::slow_timeout::SlowTimeout;
-use nextest_config_elements::threads_required::ThreadsRequired;
 use nextest_config_profiles::{Effective, EffectiveProfile, InheritsPlace, Layer, ProfileFault};
 use std::fmt::Debug;
 use toml::Table;
@@ -136,13 +129,9 @@ impl Told for EffectiveProfile<'_> {
         match word(asked) {
             ("chain", _) => done(rt, self.chain().join(rt.alloc(), ", ")),
             ("junit", folder) => report(rt, self, folder),
-            _ => setting(rt, self, asked),
+            _ => of_profile(rt, self, asked),
         }
     }
-}
-
-fn keys<'t>(rt: &Runner, path: &'t str) -> Result<Vec<&'t str>, Failure> {
-    done(rt, path.split('.').collect(rt.alloc()))
 }
 
 // The report below a folder, or why it isn't known.
@@ -155,31 +144,13 @@ fn report(rt: &Runner, profile: &EffectiveProfile<'_>, folder: &str) -> Result<S
     }
 }
 
-fn setting(rt: &Runner, profile: &EffectiveProfile<'_>, path: &str) -> Result<String, Failure> {
-    match path {
-        "retries" => given::<RetryPolicy>(rt, profile, path),
-        "flaky-result" => given::<FlakyResult>(rt, profile, path),
-        "threads-required" => given::<ThreadsRequired>(rt, profile, path),
-        "fail-fast" => given::<MaxFail>(rt, profile, path),
-        "slow-timeout" | "bench.slow-timeout" => given::<SlowTimeout>(rt, profile, path),
-        "leak-timeout" => given::<LeakTimeout>(rt, profile, path),
-        "global-timeout" | "bench.global-timeout" => given::<GlobalTimeout>(rt, profile, path),
-        "junit.path" | "junit.report-name" => given::<String>(rt, profile, path),
-        "junit.store-success-output" | "junit.store-failure-output" => {
-            given::<bool>(rt, profile, path)
-        }
-        "junit.report-skipped" => given::<ReportSkipPolicy>(rt, profile, path),
-        "junit.flaky-fail-status" => given::<JunitFlakyFailStatus>(rt, profile, path),
-        _ => unknown(rt, path),
-    }
-}
-
-fn given<T: ProfileSetting + Debug>(
+/// What a profile gets for the setting at a path.
+pub fn given<T: ProfileSetting + Debug>(
     rt: &Runner,
     profile: &EffectiveProfile<'_>,
     path: &str,
 ) -> Result<String, Failure> {
-    let keys = keys(rt, path)?;
+    let keys: Vec<&str> = done(rt, path.split('.').collect(rt.alloc()))?;
     let effective = profile.setting::<T>(rt.alloc(), keys.as_slice())?;
     effective_text(rt, effective)
 }
@@ -189,15 +160,15 @@ fn effective_text<T: ProfileSetting + Debug>(
     effective: Effective<'_, T>,
 ) -> Result<String, Failure> {
     match effective {
-        Effective::Value { profile, value } => of_profile(rt, written(rt, value)?, profile),
-        Effective::NotJudged { profile } => of_profile(rt, copied(rt, "not judged")?, profile),
+        Effective::Value { profile, value } => told_of(rt, written(rt, value)?, profile),
+        Effective::NotJudged { profile } => told_of(rt, copied(rt, "not judged")?, profile),
         Effective::Fault { profile, fault } => {
-            of_profile(rt, told::tell(rt, "", fault.at(rt.alloc(), ""))?, profile)
+            told_of(rt, told::tell(rt, "", fault.at(rt.alloc(), ""))?, profile)
         }
         Effective::Nothing => copied(rt, "nothing"),
     }
 }
 
-fn of_profile(rt: &Runner, text: String, profile: &str) -> Result<String, Failure> {
+fn told_of(rt: &Runner, text: String, profile: &str) -> Result<String, Failure> {
     done(rt, format!(in rt.alloc(); "{text} ({profile})"))
 }

@@ -2,18 +2,24 @@
 
 use crate::answers::{done, made, text, unknown, written};
 use crate::failure::Failure;
+use crate::files::lists::given;
 use crate::runner::Runner;
 use crate::told::{Told, answered};
 use crate::values::FromRow;
 use nextest_config_elements::global_timeout::GlobalTimeout;
 use nextest_config_elements::junit::{JunitFlakyFailStatus, JunitImpl};
-use nextest_config_elements::leak_timeout::{LeakTimeoutResult, deserialize_leak_timeout};
-use nextest_config_elements::max_fail::{TerminateMode, deserialize_fail_fast};
+use nextest_config_elements::leak_timeout::{
+    LeakTimeout, LeakTimeoutResult, deserialize_leak_timeout,
+};
+use nextest_config_elements::max_fail::{MaxFail, TerminateMode, deserialize_fail_fast};
 use nextest_config_elements::priority::TestPriority;
 use nextest_config_elements::report_skip_policy::ReportSkipPolicy;
-use nextest_config_elements::retry_policy::{FlakyResult, deserialize_retry_policy};
-use nextest_config_elements::slow_timeout::{SlowTimeoutResult, deserialize_slow_timeout};
+use nextest_config_elements::retry_policy::{FlakyResult, RetryPolicy, deserialize_retry_policy};
+use nextest_config_elements::slow_timeout::{
+    SlowTimeout, SlowTimeoutResult, deserialize_slow_timeout,
+};
 use nextest_config_elements::threads_required::ThreadsRequired;
+use nextest_config_profiles::EffectiveProfile;
 use nextest_config_values::helpers::deserialize_relative_path;
 use nextest_config_values::identifier::{ConfigIdentifier, ToolName};
 use nextest_config_values::read::{FromToml, NonZeroCount, Word};
@@ -74,6 +80,30 @@ fn computed(rt: &Runner, value: &Value, at: &str) -> Result<String, Failure> {
     let threads = done(rt, ThreadsRequired::read(rt.alloc(), value, at))?;
     rt.begin();
     written(rt, threads.compute(1, 8))
+}
+
+/// What a profile gets for the setting at a path.
+pub fn of_profile(
+    rt: &Runner,
+    profile: &EffectiveProfile<'_>,
+    path: &str,
+) -> Result<String, Failure> {
+    match path {
+        "retries" => given::<RetryPolicy>(rt, profile, path),
+        "flaky-result" => given::<FlakyResult>(rt, profile, path),
+        "threads-required" => given::<ThreadsRequired>(rt, profile, path),
+        "fail-fast" => given::<MaxFail>(rt, profile, path),
+        "slow-timeout" | "bench.slow-timeout" => given::<SlowTimeout>(rt, profile, path),
+        "leak-timeout" => given::<LeakTimeout>(rt, profile, path),
+        "global-timeout" | "bench.global-timeout" => given::<GlobalTimeout>(rt, profile, path),
+        "junit.path" | "junit.report-name" => given::<String>(rt, profile, path),
+        "junit.store-success-output" | "junit.store-failure-output" => {
+            given::<bool>(rt, profile, path)
+        }
+        "junit.report-skipped" => given::<ReportSkipPolicy>(rt, profile, path),
+        "junit.flaky-fail-status" => given::<JunitFlakyFailStatus>(rt, profile, path),
+        _ => unknown(rt, path),
+    }
 }
 
 /// What a type of words reads at `p`, with its word.
