@@ -144,7 +144,7 @@ fn report(rt: &Runner, profile: &EffectiveProfile<'_>, folder: &str) -> Result<S
     }
 }
 
-/// What a profile gets for the setting at a path.
+/// What a profile gets for the setting of a type at a path.
 pub fn given<T: ProfileSetting + Debug>(
     rt: &Runner,
     profile: &EffectiveProfile<'_>,
