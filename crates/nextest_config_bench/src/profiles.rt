@@ -2,7 +2,8 @@
 
 use crate::positions::print_key;
 use nextest_config::nextest_version::{ConfigSource, ConfigSourceKind};
-use nextest_config_profiles::{EffectiveProfile, Layer, LayerValue, setting_keys};
+use nextest_config_profiles::setting_key::setting_keys;
+use nextest_config_profiles::{EffectiveProfile, Layer, LayerValue};
 use std::alloc::{AllocError, Global};
 use toml::{Table, Value};
 use toml_spans::{Index, Span};

@@ -1,3 +1,4 @@
+pub mod Acceptance
 pub mod Durations
 pub mod Fields
 pub mod FromTable
@@ -9,11 +10,13 @@ pub mod LeakTimeout
 pub mod MaxFail
 pub mod Named
 pub mod Priority
+pub mod Readers
 pub mod ReadingDecisions
 pub mod ReportSkipPolicy
 pub mod RetryPolicy
 pub mod RetryRules
 pub mod SlowTimeout
+pub mod TestThreads
 pub mod ThreadsRequired
 pub mod UnknownKeys
 pub mod UnknownKeysLaws

@@ -20,12 +20,14 @@ use Rattle.nextest_config_elements.specs.RetryRules.{backoff_in, rules_by}
 use Rattle.nextest_config_elements.specs.declared.retry_policy.Backoff.{Backoff}
 use Rattle.nextest_config_elements.specs.declared.retry_policy.Backoff.TheVariants.{Exponential, Fixed}
 use Rattle.nextest_config_elements.specs.SlowTimeout.{slow_timeout_reading, slow_timeout_reads_back, slow_timeout_results, slow_timeout_word}
+use Rattle.nextest_config_elements.specs.Acceptance.{one_word}
+use Rattle.nextest_config_elements.specs.TestThreads.{test_threads_reading}
 use Rattle.nextest_config_elements.specs.ThreadsRequired.{threads_reading}
 use Rattle.nextest_config_elements.specs.declared.field.Shape.{Shape}
 use Rattle.nextest_config_elements.specs.declared.field.Shape.TheVariants as shapes
 use Rattle.nextest_config_lint.proofs.FaultsOf.{AllFaults, by_kind, no_fault}
 use Rattle.nextest_config_lint.specs.File.{reason_key, rule_key}
-use Rattle.nextest_config_lint.specs.Shapes.Forms.{depth_form, line_form, line_or_table_expected, one_word, platform_form, scalar_form, texts_expected, texts_form, threads_form}
+use Rattle.nextest_config_lint.specs.Shapes.Forms.{depth_form, line_form, line_or_table_expected, platform_form, scalar_form, texts_expected, texts_form}
 use Rattle.nextest_config_values.specs.Helpers.PathsLaws.{relative_path_reading}
 use Rattle.nextest_config_lint.specs.Rules.{rules_check}
 use Rattle.nextest_config_lint.specs.declared.settings.Rules.{Rules}
@@ -88,8 +90,8 @@ this_word held expected value = by_kind IsHere _ _ (as_str value) (λ text is. h
 depth : (value : Data) → AllFaults IsHere (depth_form.faults value)
 depth value = by_kind IsHere _ _ (as_integer value) (λ held is. here_if _ _ (refl, λ path. refl)) (this_word _ _ value)
 
-threads : (value : Data) → AllFaults IsHere (threads_form.faults value)
-threads value = by_kind IsHere _ _ (as_integer value) (λ held is. here_if _ _ (refl, λ path. refl)) (this_word _ _ value)
+test_threads : (value : Data) → AllFaults IsHere (test_threads_reading.faults value)
+test_threads value = by_kind IsHere _ _ (as_integer value) (λ held is. here_if _ _ (refl, λ path. refl)) (this_word _ _ value)
 
 threads_required : (value : Data) → AllFaults IsHere (threads_reading.faults value)
 threads_required value =
@@ -203,7 +205,7 @@ shape_here edition (shapes.Reference referent) value = text value
 shape_here edition shapes.Filter value = text value
 shape_here edition shapes.DefaultFilter value = text value
 shape_here edition shapes.Texts value = here_if _ _ (refl, λ path. refl)
-shape_here edition shapes.Threads value = threads value
+shape_here edition shapes.Threads value = test_threads value
 shape_here edition shapes.Platform value = platform value
 shape_here edition shapes.PlatformText value = text value
 shape_here edition (shapes.Word list) value = by_kind IsHere _ _ (as_str value) (λ held is. here_if _ _ (refl, λ path. refl)) (here _ (refl, λ path. refl))

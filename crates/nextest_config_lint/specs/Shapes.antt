@@ -1,27 +1,20 @@
 -- What a value has to be, but for what stands in it: what each shape takes, and what is wrong with
 -- a value that it doesn't take.
 pub mod Forms
-use Rattle.std.specs.Prelude.{◌≡◌, ◌⊎◌, ℕ, List, codes, Option, Some, None, IsSome}
+use Rattle.std.specs.Prelude.{◌≡◌, ◌⊎◌, ℕ, Bool, true, false, List, codes, Option, Some, None, IsSome, IfErr, OnOk, Result}
 use Rattle.std.proofs.Common.{inl, inr, refl, sym, ◌∙◌, subst}
 use Rattle.toml.specs.Data.{Data, as_array, as_table}
-use Rattle.nextest_config_values.specs.Duration.{duration_reading}
 use Rattle.nextest_config_values.specs.Helpers.PathsLaws.{relative_path_reading}
 use Rattle.nextest_config_values.specs.Read.Fault.{Fault}
-use Rattle.nextest_config_values.specs.Read.{bool_reading, Check, count_reading, either, meaning, text_reading, u32_reading, word_reading, wrong_type}
+use Rattle.nextest_config_values.specs.Read.{Always, Check, either, meaning, Refuses, text_reading, wrong_type}
+use Rattle.nextest_config_values.specs.declared.read.value_fault.ValueFault.{ValueFault}
 use Rattle.nextest_config.specs.NextestVersion.{features_under, version_reading, versions_reading}
 use Rattle.nextest_config.specs.declared.nextest_version.edition.Edition.{Edition}
 use Rattle.nextest_config.specs.declared.nextest_version.edition.Edition.TheVariants.{ArrayAllowed, TableOnly}
-use Rattle.nextest_config_elements.specs.Junit.{flaky_fail_reading}
-use Rattle.nextest_config_elements.specs.LeakTimeout.{leak_timeout_reading, leak_timeout_reads_back, leak_timeout_results, leak_timeout_word}
-use Rattle.nextest_config_elements.specs.MaxFail.{fail_fast_reading, max_fail_reading, terminate_reading}
-use Rattle.nextest_config_elements.specs.Priority.{priority_reading}
-use Rattle.nextest_config_elements.specs.ReportSkipPolicy.{report_skip_reading}
-use Rattle.nextest_config_elements.specs.RetryPolicy.{backoff_reads_back, backoff_word, backoffs_in_order, flaky_result_reading, retry_policy_reading}
-use Rattle.nextest_config_elements.specs.SlowTimeout.{slow_timeout_reading, slow_timeout_reads_back, slow_timeout_results, slow_timeout_word}
-use Rattle.nextest_config_elements.specs.ThreadsRequired.{threads_reading}
+use Rattle.nextest_config_elements.specs.Readers.{read_by, reader_of, ReaderOf, unread}
 use Rattle.nextest_config_elements.specs.declared.field.Shape.{Shape}
 use Rattle.nextest_config_elements.specs.declared.field.Shape.TheVariants as shapes
-use Rattle.nextest_config_lint.specs.Shapes.Forms.{command_form, command_line_form, depth_form, platform_form, scalar_form, texts_form, threads_form, word_form}
+use Rattle.nextest_config_lint.specs.Shapes.Forms.{command_form, command_line_form, depth_form, platform_form, scalar_form, texts_form, word_form}
 
 -- any value is all right
 abbrev pub any_check : Check Data
@@ -103,50 +96,56 @@ abbrev pub feature_name_check : Edition → Check Data
 feature_name_check ArrayAllowed = meaning text_reading
 feature_name_check TableOnly = any_check
 
+-- the form of a value of a shape that no type reads
+abbrev pub form_check : Edition → Shape → Check Data
+form_check edition shapes.Table = kind_check as_table (codes "a table")
+form_check edition (shapes.RuledTable rule) = kind_check as_table (codes "a table")
+form_check edition shapes.Array = kind_check as_array (codes "an array")
+form_check edition shapes.NextestVersion = meaning versions_reading
+form_check edition shapes.VersionText = meaning version_reading
+form_check edition shapes.Experimental = features_check edition
+form_check edition shapes.FeatureName = feature_name_check edition
+form_check edition shapes.Text = meaning text_reading
+form_check edition (shapes.Reference referent) = meaning text_reading
+form_check edition shapes.Filter = meaning text_reading
+form_check edition shapes.DefaultFilter = meaning text_reading
+form_check edition shapes.Texts = kind_check as_array (codes "an array of strings")
+form_check edition shapes.Platform = meaning platform_form
+form_check edition shapes.PlatformText = meaning text_reading
+form_check edition (shapes.Word list) = meaning (word_form list)
+form_check edition shapes.Scalar = meaning scalar_form
+form_check edition (shapes.References referent) = meaning texts_form
+form_check edition shapes.Command = meaning command_form
+form_check edition shapes.CommandLine = meaning command_line_form
+form_check edition shapes.RelativePath = meaning relative_path_reading
+form_check edition shapes.Depth = meaning depth_form
+form_check edition shape = any_check
+
+-- what the type that reads a value makes of it, or this where none does
+abbrev pub read_check : Check Data → ReaderOf → Check Data
+read_check form unread = form
+read_check form (read_by seen reading) = meaning reading
+
+-- tables of the shape are judged key by key
+abbrev pub is_by_key : Shape → Bool
+is_by_key shapes.NextestVersion = true
+is_by_key shapes.Retries = true
+is_by_key shapes.FailFast = true
+is_by_key shapes.SlowTimeout = true
+is_by_key shapes.LeakTimeout = true
+is_by_key shape = false
+
+-- a value that is judged key by key where it is a table, or as a whole
+abbrev pub by_key : Bool → Check Data → Check Data
+by_key true check = or_table check
+by_key false check = check
+
 -- what a value of a shape has to be, but for what stands in it
 abbrev pub shape_check : Edition → Shape → Check Data
-shape_check edition shapes.Any = any_check
-shape_check edition shapes.Table = kind_check as_table (codes "a table")
-shape_check edition (shapes.RuledTable rule) = kind_check as_table (codes "a table")
-shape_check edition shapes.Array = kind_check as_array (codes "an array")
-shape_check edition shapes.NextestVersion = or_table (meaning versions_reading)
-shape_check edition shapes.VersionText = meaning version_reading
-shape_check edition shapes.Experimental = features_check edition
-shape_check edition shapes.FeatureName = feature_name_check edition
-shape_check edition shapes.Retries = or_table (meaning retry_policy_reading)
-shape_check edition shapes.Backoff =
-    meaning (word_reading backoffs_in_order backoff_word backoff_reads_back)
-shape_check edition shapes.FlakyResult = meaning flaky_result_reading
-shape_check edition shapes.ThreadsRequired = meaning threads_reading
-shape_check edition shapes.FailFast = or_table (meaning fail_fast_reading)
-shape_check edition shapes.MaxFail = meaning max_fail_reading
-shape_check edition shapes.TerminateMode = meaning terminate_reading
-shape_check edition shapes.SlowTimeout = or_table (meaning slow_timeout_reading)
-shape_check edition shapes.SlowTimeoutResult =
-    meaning (word_reading slow_timeout_results slow_timeout_word slow_timeout_reads_back)
-shape_check edition shapes.LeakTimeout = or_table (meaning leak_timeout_reading)
-shape_check edition shapes.LeakTimeoutResult =
-    meaning (word_reading leak_timeout_results leak_timeout_word leak_timeout_reads_back)
-shape_check edition shapes.Duration = meaning duration_reading
-shape_check edition shapes.ShortDuration = meaning duration_reading
-shape_check edition shapes.Priority = meaning priority_reading
-shape_check edition shapes.Boolean = meaning bool_reading
-shape_check edition shapes.U32 = meaning u32_reading
-shape_check edition shapes.Count = meaning count_reading
-shape_check edition shapes.ReportSkipPolicy = meaning report_skip_reading
-shape_check edition shapes.FlakyFailStatus = meaning flaky_fail_reading
-shape_check edition shapes.Text = meaning text_reading
-shape_check edition (shapes.Reference referent) = meaning text_reading
-shape_check edition shapes.Filter = meaning text_reading
-shape_check edition shapes.DefaultFilter = meaning text_reading
-shape_check edition shapes.Texts = kind_check as_array (codes "an array of strings")
-shape_check edition shapes.Threads = meaning threads_form
-shape_check edition shapes.Platform = meaning platform_form
-shape_check edition shapes.PlatformText = meaning text_reading
-shape_check edition (shapes.Word list) = meaning (word_form list)
-shape_check edition shapes.Scalar = meaning scalar_form
-shape_check edition (shapes.References referent) = meaning texts_form
-shape_check edition shapes.Command = meaning command_form
-shape_check edition shapes.CommandLine = meaning command_line_form
-shape_check edition shapes.RelativePath = meaning relative_path_reading
-shape_check edition shapes.Depth = meaning depth_form
+shape_check edition shape =
+    by_key (is_by_key shape) (read_check (form_check edition shape) (reader_of shape))
+
+-- the result says whether a value passes a check, unless memory ran out
+abbrev pub IsChecked : Check Data → Data → Result (Unit {0}) ValueFault → Type 0
+IsChecked check value result =
+    OnOk result (check.passes value) × IfErr result (Refuses (check.faults value) Always)

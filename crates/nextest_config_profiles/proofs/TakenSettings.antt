@@ -1,26 +1,33 @@
 -- The readings of settings take values with the same leaves alike.
 use Rattle.std.specs.Prelude.{codes}
 use Rattle.std.proofs.Common.{◌≡◌, ℕ, ℤ, pos, negsuc, Bool, false, List, [], ◌∷◌, Option, Some, None, refl, rules}
-use Rattle.toml.specs.Data.{as_bool, as_integer, as_str}
+use Rattle.toml.specs.Data.{as_bool, as_integer, as_str, Data}
 use Rattle.nextest_config_values.specs.Decisions.{IsDecided}
 use Rattle.nextest_config_values.specs.Duration.{duration_reading}
 use Rattle.nextest_config_values.specs.Read.Fault.{duration_expected}
 use Rattle.nextest_config_values.specs.Read.Plain.{count_decided, u32_decided}
-use Rattle.nextest_config_values.specs.Read.{bool_reading, count_reading, in_range, IsCount, IsU32, jitter_without_delay, number_reading, rule_check, text_expected, text_reading, u32_reading, value_of, word_reading}
+use Rattle.nextest_config_values.specs.Read.{bool_reading, count_reading, in_range, IsCount, IsU32, jitter_without_delay, made_of, number_reading, Reading, rule_check, text_expected, text_reading, u32_reading, value_of, word_reading}
+use Rattle.nextest_config_elements.specs.Junit.{flaky_fail_reads_back, flaky_fail_statuses, flaky_fail_word}
 use Rattle.nextest_config_elements.specs.LeakTimeout as leak
 use Rattle.nextest_config_elements.specs.MaxFail as fail
 use Rattle.nextest_config_elements.specs.MaxFail.FailFast.{mode_reads_back}
+use Rattle.nextest_config_elements.specs.Priority.{priority_expected, priority_reading}
+use Rattle.nextest_config_elements.specs.Readers.{reader_of}
+use Rattle.nextest_config_elements.specs.ReportSkipPolicy.{report_skip_policies, report_skip_reads_back, report_skip_word}
 use Rattle.nextest_config_elements.specs.RetryPolicy as retry
 use Rattle.nextest_config_elements.specs.SlowTimeout as slow
 use Rattle.nextest_config_elements.specs.UnknownKeysLaws.{keys_check}
+use Rattle.nextest_config_elements.specs.TestThreads.{test_threads_expected, test_threads_reading}
 use Rattle.nextest_config_elements.specs.ThreadsRequired.{threads_expected, threads_reading}
+use Rattle.nextest_config_elements.specs.declared.field.Shape.{Shape}
+use Rattle.nextest_config_elements.specs.declared.field.Shape.TheVariants as shapes
 use Rattle.nextest_config_elements.specs.declared.leak_timeout.LeakTimeoutResult.TheVariants as leak_results
 use Rattle.nextest_config_elements.specs.declared.max_fail.TerminateMode.TheVariants as modes
 use Rattle.nextest_config_elements.specs.declared.slow_timeout.SlowTimeoutResult.TheVariants as slow_results
 use Rattle.nextest_config_elements.specs.declared.threads_required.ThreadsRequired.TheVariants.{Count}
-use Rattle.nextest_config_profiles.specs.Alike.{AreAlike}
+use Rattle.nextest_config_profiles.specs.Alike.{AreAlike, AreTakenAlike, TakesAlike}
 use Rattle.nextest_config_profiles.proofs.Alike.{AlikeMembers}
-use Rattle.nextest_config_profiles.proofs.TakesAlike.{Passes, passes_keys, Takes, takes_checked, takes_default, takes_kept, takes_made, takes_none, takes_only, takes_optional, takes_required, takes_table, takes_then, takes_value}
+use Rattle.nextest_config_profiles.proofs.TakesAlike.{of_values, Passes, passes_keys, Takes, takes_checked, takes_default, takes_kept, takes_made, takes_none, takes_only, takes_optional, takes_required, takes_table, takes_then, takes_value}
 
 -- ---- plain values
 
@@ -140,3 +147,41 @@ takes_leak_table = takes_then (takes_required leak.period_key takes_duration) (�
 pub takes_leak : Takes AreAlike leak.leak_timeout_reading
 takes_leak = takes_value (λ text. takes_made (λ period. Some (leak.leak_timeout period leak_results.Pass)) takes_duration)
     (takes_table takes_leak_table leak.leak_timeout_expected) as_str (λ members. refl)
+
+-- ---- of all shapes
+
+takes_test_threads : Takes AreAlike test_threads_reading
+takes_test_threads = takes_value (λ number. record { means_too = λ v w alike x meant. meant })
+    (takes_value (λ held. record { means_too = λ v w alike x meant. meant }) (takes_none test_threads_expected) as_str (λ members. refl)) as_integer (λ members. refl)
+
+takes_priority : Takes AreAlike priority_reading
+takes_priority = takes_value (λ held. record { means_too = λ v w alike x meant. meant }) (takes_none priority_expected) as_integer (λ members. refl)
+
+always : {X : Type 0} {reading : Reading Data X} → Takes AreAlike reading → TakesAlike (made_of Some reading)
+always takes = of_values (takes_made Some takes)
+
+pub text_taken : TakesAlike (made_of Some text_reading)
+text_taken = always takes_text
+
+pub shape_taken : (shape : Shape) → AreTakenAlike (reader_of shape)
+shape_taken shapes.Retries = of_values takes_retries
+shape_taken shapes.Backoff = always (takes_word retry.backoffs_in_order retry.backoff_word retry.backoff_reads_back)
+shape_taken shapes.FlakyResult = always (takes_word retry.flaky_results retry.flaky_result_word retry.flaky_result_reads_back)
+shape_taken shapes.ThreadsRequired = always takes_threads
+shape_taken shapes.FailFast = of_values takes_fail_fast
+shape_taken shapes.MaxFail = always takes_max_fail
+shape_taken shapes.TerminateMode = always (takes_word (modes.Wait ∷ modes.Immediate ∷ []) fail.mode_word mode_reads_back)
+shape_taken shapes.SlowTimeout = of_values takes_slow
+shape_taken shapes.SlowTimeoutResult = always (takes_word slow.slow_timeout_results slow.slow_timeout_word slow.slow_timeout_reads_back)
+shape_taken shapes.LeakTimeout = of_values takes_leak
+shape_taken shapes.LeakTimeoutResult = always (takes_word leak.leak_timeout_results leak.leak_timeout_word leak.leak_timeout_reads_back)
+shape_taken shapes.Duration = always takes_duration
+shape_taken shapes.ShortDuration = always takes_duration
+shape_taken shapes.Priority = always takes_priority
+shape_taken shapes.Boolean = always takes_bool
+shape_taken shapes.U32 = always takes_u32
+shape_taken shapes.Count = always takes_count
+shape_taken shapes.ReportSkipPolicy = always (takes_word report_skip_policies report_skip_word report_skip_reads_back)
+shape_taken shapes.FlakyFailStatus = always (takes_word flaky_fail_statuses flaky_fail_word flaky_fail_reads_back)
+shape_taken shapes.Threads = always takes_test_threads
+shape_taken shape = tt

@@ -2,6 +2,7 @@
 use Rattle.std.specs.Prelude.{◌↔◌, ℕ, List, Option, Some, None}
 use Rattle.toml.specs.Data.{Data}
 use Rattle.nextest_config_values.specs.Read.{Reading}
+use Rattle.nextest_config_elements.specs.Readers.{read_by, ReaderOf, unread}
 use Rattle.nextest_config_profiles.specs.Merged.{HasLeaf}
 use Rattle.nextest_config_profiles.specs.Said.{Path}
 use Rattle.nextest_config_profiles.specs.declared.effective.Effective.{Effective}
@@ -15,6 +16,11 @@ AreAlike v w = (path : Path) (value : Data) → HasLeaf v path value ↔ HasLeaf
 -- what a value means is what each one means that has the same leaves
 pub record TakesAlike {X : Type 0} (reading : Reading Data X) : Type 0 where
   pub means_alike : (v w : Data) → AreAlike v w → (x : X) → reading.means v x → reading.means w x
+
+-- so does the reading of a type, where one reads the value
+abbrev pub AreTakenAlike : ReaderOf → Type 0
+AreTakenAlike unread = Unit {0}
+AreTakenAlike (read_by seen reading) = TakesAlike reading
 
 -- the profile whose value is given, and what is seen of that
 abbrev pub given_value : {X Y : Type 0} → (X → Y) → Effective X → Option (List ℕ × Y)

@@ -6,10 +6,12 @@ ghost use Rattle.toml.specs.Data.{Data};
 ghost use Rattle.nextest_config_values.specs.Read.{made_of};
 ghost use Rattle.nextest_config_elements.specs.LeakTimeout.{leak_timeout_fields, leak_timeout_reading};
 ghost use Rattle.nextest_config_elements.specs.MaxFail.{fail_fast_fields, fail_fast_reading};
+ghost use Rattle.nextest_config_elements.specs.Readers.{reader_of};
 ghost use Rattle.nextest_config_elements.specs.RetryPolicy.{open_fields, retry_policy_reading};
 ghost use Rattle.nextest_config_elements.specs.SlowTimeout.{slow_timeout_fields, slow_timeout_reading};
+ghost use Rattle.nextest_config_elements.specs.declared.field.Shape.{Shape};
 ghost use Rattle.nextest_config_profiles.specs.AbsentKeys.{TakesDefaults};
-ghost use Rattle.nextest_config_profiles.specs.Alike.{given_by, given_value, TakesAlike};
+ghost use Rattle.nextest_config_profiles.specs.Alike.{AreTakenAlike, given_by, given_value, TakesAlike};
 ghost use Rattle.nextest_config_profiles.specs.Chain.{IsChain, IsWrong, Wrong};
 ghost use Rattle.nextest_config_profiles.specs.Effective.{IsEffective};
 ghost use Rattle.nextest_config_profiles.specs.Merged.{IsLeaf, Layers};
@@ -19,12 +21,7 @@ ghost use Rattle.nextest_config_profiles.specs.Report.Setting.{all_settings};
 ghost use Rattle.nextest_config_profiles.specs.Said.{leaf, Path, said_at, silent};
 ghost use Rattle.nextest_config_profiles.specs.declared.effective.Effective.{Effective};
 
-use nextest_config_elements::global_timeout::GlobalTimeout;
-use nextest_config_elements::junit::JunitFlakyFailStatus;
 use nextest_config_elements::profile_setting::ProfileSetting;
-use nextest_config_elements::report_skip_policy::ReportSkipPolicy;
-use nextest_config_elements::retry_policy::FlakyResult;
-use nextest_config_elements::threads_required::ThreadsRequired;
 use nextest_config_values::read::FromToml;
 
 /// Layers have at most one leaf at a path, by one of them.
@@ -59,18 +56,8 @@ pub fn law_effective_once<T: ProfileSetting>()
 
 /// The readers of all settings take tables alike whose keys stand in another order.
 pub fn law_settings_take_alike()
-    ensures retries { TakesAlike retry_policy_reading }
-    ensures flaky_result { TakesAlike (made_of Some ⟦<FlakyResult as FromToml>⟧.reading) }
-    ensures threads_required { TakesAlike (made_of Some ⟦<ThreadsRequired as FromToml>⟧.reading) }
-    ensures fail_fast { TakesAlike fail_fast_reading }
-    ensures slow_timeout { TakesAlike slow_timeout_reading }
-    ensures leak_timeout { TakesAlike leak_timeout_reading }
-    ensures global_timeout { TakesAlike (made_of Some ⟦<GlobalTimeout as FromToml>⟧.reading) }
+    ensures shapes { (shape : Shape) → AreTakenAlike (reader_of shape) }
     ensures texts { TakesAlike (made_of Some ⟦<String as FromToml>⟧.reading) }
-    ensures booleans { TakesAlike (made_of Some ⟦<bool as FromToml>⟧.reading) }
-    ensures report_skipped { TakesAlike (made_of Some ⟦<ReportSkipPolicy as FromToml>⟧.reading) }
-    ensures flaky_fail_status { TakesAlike
-        (made_of Some ⟦<JunitFlakyFailStatus as FromToml>⟧.reading) }
 {}
 
 /// What is told as taken for a key that the table of a setting lacks is what its reader takes: the

@@ -4,7 +4,8 @@ ghost use Rattle.std.specs.Prelude.{IfErr, OnOk};
 ghost use Rattle.toml.specs.View.{view};
 ghost use Rattle.nextest_config_values.specs.Read.{Always, meaning, Refuses, text_reading};
 ghost use Rattle.nextest_config_values.specs.Helpers.PathsLaws.{relative_path_reading};
-ghost use Rattle.nextest_config_lint.specs.Shapes.Forms.{command_form, command_line_form, depth_form, line_form, one_word, platform_form, scalar_form, texts_form, threads_form, word_form};
+ghost use Rattle.nextest_config_elements.specs.Acceptance.{one_word};
+ghost use Rattle.nextest_config_lint.specs.Shapes.Forms.{command_form, command_line_form, depth_form, line_form, platform_form, scalar_form, texts_form, word_form};
 
 use crate::unknown::is_known;
 use nextest_config_elements::word_list::WordList;
@@ -14,8 +15,6 @@ use std::alloc::Global;
 use toml::Value;
 
 const TEXT: &str = "a string";
-
-const THREADS: &str = "an integer other than 0 or the string \"num-cpus\"";
 
 const DEPTH: &str = "a non-negative integer or the string \"infinite\"";
 
@@ -36,18 +35,6 @@ pub(crate) fn check_text(alloc: Global, value: &Value) -> Result<(), ValueFault>
     match value.as_str() {
         Some(_) => Ok(()),
         None => Err(ValueFault::invalid_type(alloc, value, TEXT)),
-    }
-}
-
-/// An integer other than 0, or the word for as many as there are processors.
-pub(crate) fn check_threads(alloc: Global, value: &Value) -> Result<(), ValueFault>
-    ensures meant { OnOk result ((meaning threads_form).passes (view value.now)) }
-    ensures refused { IfErr result (Refuses (threads_form.faults (view value.now)) Always) }
-{
-    match value.as_integer() {
-        Some(0) => Err(ValueFault::invalid_value(alloc, value, THREADS)),
-        Some(_) => Ok(()),
-        None => check_one_word(alloc, value, "num-cpus", THREADS),
     }
 }
 

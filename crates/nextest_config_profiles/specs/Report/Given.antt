@@ -2,17 +2,10 @@
 use Rattle.std.specs.Prelude.{◌≡◌, ◌⊎◌, ℕ, List, ◌∷◌, if◌then◌else◌, Option, Some, None, string_bytes}
 use Rattle.std.proofs.Common.{Global}
 use Rattle.toml.specs.Data.{Data}
-use Rattle.nextest_config_values.specs.Duration.{duration_reading}
-use Rattle.nextest_config_values.specs.Read.{bool_reading, made_of, only, Reading, text_reading}
+use Rattle.nextest_config_values.specs.Read.{made_of, only, Reading, text_reading}
 use Rattle.nextest_config_elements.specs.Fields.{KeyRule}
-use Rattle.nextest_config_elements.specs.GlobalTimeout.{global_timeout_of}
-use Rattle.nextest_config_elements.specs.Junit.{flaky_fail_reading}
-use Rattle.nextest_config_elements.specs.LeakTimeout.{leak_timeout_of, leak_timeout_reading}
-use Rattle.nextest_config_elements.specs.MaxFail.{fail_fast_reading}
-use Rattle.nextest_config_elements.specs.ReportSkipPolicy.{report_skip_reading}
-use Rattle.nextest_config_elements.specs.RetryPolicy.{flaky_result_reading, retry_policy_of, retry_policy_reading}
-use Rattle.nextest_config_elements.specs.SlowTimeout.{slow_timeout_of, slow_timeout_reading}
-use Rattle.nextest_config_elements.specs.ThreadsRequired.{threads_reading}
+use Rattle.nextest_config_elements.specs.Readers.{read_by, reader_of, ReaderOf, unread}
+use Rattle.nextest_config_elements.specs.SlowTimeout.{slow_timeout_reading}
 use Rattle.nextest_config_elements.specs.declared.field.Shape.{Shape}
 use Rattle.nextest_config_elements.specs.declared.field.Shape.TheVariants as shapes
 use Rattle.nextest_config_values.specs.declared.read.value_fault.ValueFault.{ValueFault}
@@ -51,21 +44,20 @@ abbrev pub IsGivenValue : {X Y : Type 0} → (X → Y) → Reading Data Y → Ef
     → List (List ℕ) → Path → Given → Type 0
 IsGivenValue seen reading = IsGivenBy seen (made_of Some reading)
 
--- what the first of profiles gives at keys by the reading of a shape; what none reads is given as
--- it is written
+-- what is given at keys of a shape that no type reads: a text, or what is written there
+abbrev pub IsGivenUnread : Shape → EffectiveProfile → List (List ℕ) → Path → Given → Type 0
+IsGivenUnread shapes.Text = IsGivenValue (string_bytes {Z = Global}) text_reading
+IsGivenUnread other = IsGivenValue (λ (it : Written). tt {0}) (only (tt {0}))
+
+-- what is given at keys by the type that reads a shape, or this where none does
+abbrev pub IsGivenRead : (EffectiveProfile → List (List ℕ) → Path → Given → Type 0) → ReaderOf
+    → EffectiveProfile → List (List ℕ) → Path → Given → Type 0
+IsGivenRead otherwise unread = otherwise
+IsGivenRead otherwise (read_by seen reading) = IsGivenBy seen reading
+
+-- what the first of profiles gives at keys that have a value of a shape
 abbrev pub IsGivenAs : Shape → EffectiveProfile → List (List ℕ) → Path → Given → Type 0
-IsGivenAs shapes.Retries = IsGivenBy retry_policy_of retry_policy_reading
-IsGivenAs shapes.FlakyResult = IsGivenValue (λ it. it) flaky_result_reading
-IsGivenAs shapes.ThreadsRequired = IsGivenValue (λ it. it) threads_reading
-IsGivenAs shapes.FailFast = IsGivenBy (λ it. it) fail_fast_reading
-IsGivenAs shapes.SlowTimeout = IsGivenBy slow_timeout_of slow_timeout_reading
-IsGivenAs shapes.LeakTimeout = IsGivenBy leak_timeout_of leak_timeout_reading
-IsGivenAs shapes.Duration = IsGivenValue global_timeout_of duration_reading
-IsGivenAs shapes.Text = IsGivenValue (string_bytes {Z = Global}) text_reading
-IsGivenAs shapes.Boolean = IsGivenValue (λ it. it) bool_reading
-IsGivenAs shapes.ReportSkipPolicy = IsGivenValue (λ it. it) report_skip_reading
-IsGivenAs shapes.FlakyFailStatus = IsGivenValue (λ it. it) flaky_fail_reading
-IsGivenAs other = IsGivenValue (λ (it : Written). tt {0}) (only (tt {0}))
+IsGivenAs shape = IsGivenRead (IsGivenUnread shape) (reader_of shape)
 
 -- the shape by which a value is read: any, of what is known from nextest's documentation alone
 abbrev pub shape_read : KeyRule → Shape

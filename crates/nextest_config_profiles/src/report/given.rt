@@ -4,7 +4,7 @@ ghost use Rattle.std.specs.Prelude.{◌≡◌, IfOk};
 ghost use Rattle.toml.specs.View.{view};
 ghost use Rattle.nextest_config_profiles.specs.Profile.{AreLookedUp, layers_in, names_of};
 ghost use Rattle.nextest_config_profiles.specs.Reach.{words_of};
-ghost use Rattle.nextest_config_profiles.specs.Report.Given.{given_of, IsFaultJudged, IsGivenBy, IsGivenFor, IsReadFor, IsValueJudged, shape_read};
+ghost use Rattle.nextest_config_profiles.specs.Report.Given.{given_of, IsFaultJudged, IsGivenBy, IsGivenFor, IsGivenUnread, IsReadFor, IsValueJudged, shape_read};
 ghost use Rattle.nextest_config_profiles.specs.Report.Setting.{member_of, rule_of};
 
 use crate::effective::first_given;
@@ -15,15 +15,9 @@ use crate::report::setting::KnownSetting;
 use crate::report::written::{Written, is_documented};
 use crate::{Effective, EffectiveProfile};
 use nextest_config_elements::field::{Field, Shape};
-use nextest_config_elements::global_timeout::GlobalTimeout;
-use nextest_config_elements::junit::JunitFlakyFailStatus;
-use nextest_config_elements::leak_timeout::LeakTimeout;
-use nextest_config_elements::max_fail::MaxFail;
 use nextest_config_elements::profile_setting::ProfileSetting;
-use nextest_config_elements::report_skip_policy::ReportSkipPolicy;
-use nextest_config_elements::retry_policy::{FlakyResult, RetryPolicy};
+use nextest_config_elements::readers::{ReaderVisitor, visit_reader};
 use nextest_config_elements::slow_timeout::SlowTimeout;
-use nextest_config_elements::threads_required::ThreadsRequired;
 use nextest_config_lint::is_converted_at;
 use nextest_config_values::read::ValueFault;
 use std::alloc::{AllocError, Global};
@@ -124,22 +118,50 @@ fn read_for<'p>(
     ensures { IfOk result
         (IsReadFor effective.now (names_of profiles.now) (rule_of setting.entry)) }
 {
-    let keys = setting.keys;
-    match shape_read(setting.field) {
-        Shape::Retries => given_by::<RetryPolicy>(alloc, effective, profiles, keys),
-        Shape::FlakyResult => given_by::<FlakyResult>(alloc, effective, profiles, keys),
-        Shape::ThreadsRequired => given_by::<ThreadsRequired>(alloc, effective, profiles, keys),
-        Shape::FailFast => given_by::<MaxFail>(alloc, effective, profiles, keys),
-        Shape::SlowTimeout => given_by::<SlowTimeout>(alloc, effective, profiles, keys),
-        Shape::LeakTimeout => given_by::<LeakTimeout>(alloc, effective, profiles, keys),
-        Shape::Duration => given_by::<GlobalTimeout>(alloc, effective, profiles, keys),
-        Shape::Text => given_by::<String>(alloc, effective, profiles, keys),
-        Shape::Boolean => given_by::<bool>(alloc, effective, profiles, keys),
-        Shape::ReportSkipPolicy => given_by::<ReportSkipPolicy>(alloc, effective, profiles, keys),
-        Shape::FlakyFailStatus => given_by::<JunitFlakyFailStatus>(
-            alloc, effective, profiles, keys,
-        ),
-        _ => given_by::<Written>(alloc, effective, profiles, keys),
+    let shape = shape_read(setting.field);
+    let asked = GivenAt {
+        alloc,
+        effective,
+        profiles,
+        keys: setting.keys,
+        shape,
+    };
+    visit_reader(shape, asked)
+}
+
+// What profiles give at keys.
+#[derive(Drop)]
+struct GivenAt<'a, 'e, 'p> {
+    alloc: Global,
+    effective: &'a EffectiveProfile<'e>,
+    profiles: &'a [ProfileAlone<'p>],
+    keys: &'a [&'a str],
+    shape: Shape,
+}
+
+impl<'p> ReaderVisitor for GivenAt<'_, '_, 'p> {
+    type Output = Result<Given<'p>, AllocError>;
+
+    ghost is_ready = { λ asked. AreLookedUp (layers_in asked.effective.now) asked.profiles.now };
+
+    ghost answers = { λ X Y seen reading asked result. IfOk result
+        (IsGivenBy seen reading asked.effective.now (names_of asked.profiles.now)
+        (words_of asked.keys.now)) };
+
+    ghost answers_unread = { λ asked result. IfOk result
+        (IsGivenUnread asked.shape asked.effective.now (names_of asked.profiles.now)
+        (words_of asked.keys.now)) };
+
+    fn visit<T: ProfileSetting>(self) -> Result<Given<'p>, AllocError> {
+        let given = first_given::<T>(self.alloc, self.profiles, self.keys)?;
+        Ok(given_of(given))
+    }
+
+    fn visit_unread(self) -> Result<Given<'p>, AllocError> {
+        match self.shape {
+            Shape::Text => self.visit::<String>(),
+            _ => self.visit::<Written>(),
+        }
     }
 }
 
@@ -151,21 +173,6 @@ fn shape_read(field: &Field) -> Shape
         return Shape::Any;
     }
     field.shape
-}
-
-// What the first of these profiles that has something at keys gives there, by a type's reader.
-fn given_by<'p, T: ProfileSetting>(
-    alloc: Global,
-    effective: &EffectiveProfile<'_>,
-    profiles: &[ProfileAlone<'p>],
-    keys: &[&str],
-) -> Result<Given<'p>, AllocError>
-    requires { AreLookedUp (layers_in effective.now) profiles.now }
-    ensures { IfOk result (IsGivenBy T.seen T.reading effective.now (names_of profiles.now)
-        (words_of keys.now)) }
-{
-    let given = first_given::<T>(alloc, profiles, keys)?;
-    Ok(given_of(given))
 }
 
 /// What is given, without the value.

@@ -18,6 +18,7 @@ use nextest_config_elements::retry_policy::{FlakyResult, RetryPolicy, deserializ
 use nextest_config_elements::slow_timeout::{
     SlowTimeout, SlowTimeoutResult, deserialize_slow_timeout,
 };
+use nextest_config_elements::test_threads::TestThreads;
 use nextest_config_elements::threads_required::ThreadsRequired;
 use nextest_config_profiles::EffectiveProfile;
 use nextest_config_values::helpers::deserialize_relative_path;
@@ -69,6 +70,7 @@ fn setting(rt: &Runner, name: &str, value: &Value, at: &str) -> Result<String, F
         "priority" => read::<TestPriority>(rt, value, at),
         "retries" => made(rt, deserialize_retry_policy(rt.call(), value, at)),
         "slow-timeout" => made(rt, deserialize_slow_timeout(rt.call(), value, at)),
+        "test-threads" => read::<TestThreads>(rt, value, at),
         "threads-required" => read::<ThreadsRequired>(rt, value, at),
         "ThreadsRequired::compute" => computed(rt, value, at),
         _ => unknown(rt, name),
