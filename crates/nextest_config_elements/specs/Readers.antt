@@ -30,7 +30,7 @@ read_always seen reading = read_by seen (made_of Some reading)
 abbrev pub read_as_is : {X : Type 0} → Reading Data X → ReaderOf
 read_as_is reading = read_always (λ it. it) reading
 
--- the type that reads the values of a shape
+-- the type that reads the values of a shape (nextest's configuration reference)
 abbrev pub reader_of : Shape → ReaderOf
 reader_of shapes.Retries = read_by retry_policy_of retry_policy_reading
 reader_of shapes.Backoff =

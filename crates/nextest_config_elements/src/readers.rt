@@ -33,10 +33,12 @@ pub trait ReaderVisitor: Sized {
     // What is answered where no type reads the value.
     ghost answers_unread: { Self → Self.Output → Type 0 };
 
+    /// Answers for a type that reads the value.
     fn visit<T: ProfileSetting>(self) -> Self::Output
         requires { is_ready self }
         ensures { answers T T.Seen T.seen T.reading self result };
 
+    /// Answers where no type reads it.
     fn visit_unread(self) -> Self::Output
         requires { is_ready self }
         ensures { answers_unread self result };
