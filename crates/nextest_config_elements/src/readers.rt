@@ -69,6 +69,7 @@ pub fn visit_reader<V: ReaderVisitor>(shape: Shape, visitor: V) -> V::Output
         Shape::ReportSkipPolicy => visitor.visit::<ReportSkipPolicy>(),
         Shape::FlakyFailStatus => visitor.visit::<JunitFlakyFailStatus>(),
         Shape::Threads => visitor.visit::<TestThreads>(),
+        // A text among these, which is judged without a copy.
         _ => visitor.visit_unread(),
     }
 }

@@ -96,7 +96,7 @@ abbrev pub feature_name_check : Edition → Check Data
 feature_name_check ArrayAllowed = meaning text_reading
 feature_name_check TableOnly = any_check
 
--- the form of a value of a shape that no type reads
+-- the form of a value of a shape that no type reads: any, where none is named
 abbrev pub form_check : Edition → Shape → Check Data
 form_check edition shapes.Table = kind_check as_table (codes "a table")
 form_check edition (shapes.RuledTable rule) = kind_check as_table (codes "a table")

@@ -21,6 +21,7 @@ ghost use Rattle.nextest_config_profiles.specs.Report.Setting.{all_settings};
 ghost use Rattle.nextest_config_profiles.specs.Said.{leaf, Path, said_at, silent};
 ghost use Rattle.nextest_config_profiles.specs.declared.effective.Effective.{Effective};
 
+use nextest_config_elements::global_timeout::GlobalTimeout;
 use nextest_config_elements::profile_setting::ProfileSetting;
 use nextest_config_values::read::FromToml;
 
@@ -57,6 +58,7 @@ pub fn law_effective_once<T: ProfileSetting>()
 /// The readers of all settings take tables alike whose keys stand in another order.
 pub fn law_settings_take_alike()
     ensures shapes { (shape : Shape) → AreTakenAlike (reader_of shape) }
+    ensures global_timeout { TakesAlike (made_of Some ⟦<GlobalTimeout as FromToml>⟧.reading) }
     ensures texts { TakesAlike (made_of Some ⟦<String as FromToml>⟧.reading) }
 {}
 
